@@ -1,0 +1,6 @@
+pub mod Digits
+pub mod Decimal
+pub mod Zoned
+pub mod Packed
+pub mod Binary
+pub mod Shipped

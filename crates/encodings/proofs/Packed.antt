@@ -1,0 +1,176 @@
+-- Laws of the packed form: a loop's step for reading and for writing, and what it owes as a form.
+use mathlib.Core.Path.{_≡_, refl, sym, ap, _∙_}
+use mathlib.Core.Bool.{Bool, true, false, cond}
+use mathlib.Core.List.{List, [], _∷_, _++_}
+use mathlib.Core.Logic.{_⊎_, inl, inr}
+use Prim.Native.Nat.{ℕ, zero, suc, _+_, _-_, _*_, _/_, _%_, _^_, _<_, _≤_}
+use native.Mathlib.Nat.{one-mul, div-one, div-eq-of-lt}
+use native.Mathlib.Omega.{arith}
+use borrow.Author.Tests.{eqb-true, eqb-false, eq-eqb, ne-eqb}
+use lib.Dec.{eqb}
+use lib.IntN.{ℤ, pos, negsuc, natAbs}
+use lib.ListN.{length, length-append}
+use Rattle.std.specs.declared.option.Option.the-variants.{Some, None}
+use Rattle.std.specs.Options.{Cases}
+use Rattle.std.specs.shelf.Lists.{All}
+use Rattle.std.specs.shelf.Digits.{number, Under}
+use Rattle.std.proofs.shelf.Elements.{all-append, all-weaker}
+use Rattle.std.proofs.shelf.Signed.{ints}
+use Rattle.std.proofs.shelf.Ways.{tells}
+use Rattle.bank.specs.Model.{Form, Within, LawfulForm, Bytes}
+use Rattle.encodings.specs.Digits.{digits}
+use Rattle.encodings.specs.Decimal.{low, high, with-sign, digits-then-sign, sign-of, even, halves, joined, spare, packed, packed-image, packed-value, past-spare}
+use Rattle.encodings.proofs.Digits.{length-digits, under-digits, number-digits}
+use Rattle.encodings.proofs.Decimal.{digit-on, digit-bad, digits-on, with-sign-of, sign-small, digits-size, in-range, size-in-range, cases-weaker, decimal-limits}
+
+-- ---- reading: the spare half, a byte before the last, and the last
+
+pub packed-spare : (size b : ℕ) (bs : List ℕ) → size % 2 ≡ 0 → 0 < b / 16 → packed-value size (b ∷ bs) ≡ None
+packed-spare size b bs e h = rw (eq-eqb (size % 2) 0 e) (grind (arith, tells))
+
+pub packed-start : (size b : ℕ) (bs : List ℕ) → (size % 2 ≡ 0 → ⊥) ⊎ (b / 16 ≡ 0) → packed-value size (b ∷ bs) ≡ digits-then-sign 0 (halves (b ∷ bs))
+packed-start size b bs (inl h) = rw (ne-eqb (size % 2) 0 h)
+packed-start size b bs (inr h) = go (even size)
+  where
+    go : (t : Bool) → past-spare t (halves (b ∷ bs)) ≡ digits-then-sign 0 (halves (b ∷ bs))
+    go true = let z : 0 + b / 16 ≡ 0 = omega arith in grind (arith, tells)
+    go false = refl
+
+pub packed-on : (n b : ℕ) (bs : List ℕ) → 0 < length bs → b / 16 ≤ 9 → b % 16 ≤ 9 → digits-then-sign n (halves (b ∷ bs)) ≡ digits-then-sign (n * 100 + b / 16 * 10 + b % 16) (halves bs)
+packed-on n b [] l h k = absurd (omega arith)
+packed-on n b (c ∷ bs) l h k =
+    let e : (n * 10 + b / 16) * 10 + b % 16 ≡ n * 100 + b / 16 * 10 + b % 16 = omega arith in
+    digit-on n (b / 16) (b % 16 ∷ halves (c ∷ bs)) (omega arith) h ∙ digit-on (n * 10 + b / 16) (b % 16) (halves (c ∷ bs)) (omega arith) k
+    ∙ ap (λ m. digits-then-sign m (halves (c ∷ bs))) e
+
+pub packed-bad : (n b : ℕ) (bs : List ℕ) → 0 < length bs → (9 < b / 16) ⊎ (9 < b % 16) → digits-then-sign n (halves (b ∷ bs)) ≡ None
+packed-bad n b [] l h = absurd (omega arith)
+packed-bad n b (c ∷ bs) l (inl h) = digit-bad n (b / 16) (b % 16 ∷ halves (c ∷ bs)) (omega arith) h
+packed-bad n b (c ∷ bs) l (inr h) = grind (arith, tells)
+
+pub packed-last : (n b : ℕ) → b / 16 ≤ 9 → digits-then-sign n (halves (b ∷ [])) ≡ with-sign (b % 16) (n * 10 + b / 16)
+packed-last n b h = digit-on n (b / 16) (b % 16 ∷ []) (omega arith) h
+
+pub packed-last-bad : (n b : ℕ) → 9 < b / 16 → digits-then-sign n (halves (b ∷ [])) ≡ None
+packed-last-bad n b h = digit-bad n (b / 16) (b % 16 ∷ []) (omega arith) h
+
+-- ---- writing: the last byte, one byte more in front, and all of them
+
+-- the last w bytes of the image of a number with magnitude n and sign half s
+abbrev pub tail : ℕ → ℕ → ℕ → List ℕ
+tail s w n = joined (digits 10 (w * 2 - 1) n ++ s ∷ [])
+
+pub tail-one : (s n : ℕ) → tail s 1 n ≡ (n % 10 * 16 + s) ∷ []
+tail-one s n = rw (div-one n)
+
+tail-step : (s k a b n : ℕ) → a ≡ suc (suc k) → b ≡ suc k → joined (digits 10 a n ++ s ∷ []) ≡ (n / 10 ^ b % 10 * 16 + n / 10 ^ k % 10) ∷ joined (digits 10 k n ++ s ∷ [])
+tail-step s k a b n e f = rw (e, f)
+
+pub tail-more : (s w n : ℕ) → 0 < w → tail s (suc w) n ≡ (n / 10 ^ (w * 2) % 10 * 16 + n / 10 ^ (w * 2 - 1) % 10) ∷ tail s w n
+tail-more s w n h = tail-step s (w * 2 - 1) (suc w * 2 - 1) (w * 2) n (omega arith) (omega arith)
+
+top-zero : (size n : ℕ) → n < 10 ^ size → digits 10 (suc size) n ≡ 0 ∷ digits 10 size n
+top-zero size n l = ap (λ q. (q % 10) ∷ digits 10 size n) (div-eq-of-lt l)
+
+pub tail-all : (size : ℕ) (z : ℤ) → natAbs z < 10 ^ size → packed-image size z ≡ tail (sign-of z) (size / 2 + 1) (natAbs z)
+tail-all size z h = go (even size) refl (sign-of z) (natAbs z) h
+  where
+    go : (t : Bool) → even size ≡ t → (s n : ℕ) → n < 10 ^ size → joined (cond t (0 ∷ []) [] ++ digits 10 size n ++ s ∷ []) ≡ tail s (size / 2 + 1) n
+    go true e s n l =
+        let c : (size / 2 + 1) * 2 - 1 ≡ suc size = omega (arith, eqb-true (size % 2) 0 e) in
+        rw c (ap (λ (ds : List ℕ). joined (ds ++ s ∷ [])) (sym (top-zero size n l)))
+    go false e s n l =
+        let c : (size / 2 + 1) * 2 - 1 ≡ size = omega (arith, eqb-false (size % 2) 0 e) in
+        rw c
+
+-- ---- what the form owes
+
+length-halves : (bs : List ℕ) → length (halves bs) ≡ length bs * 2
+length-halves [] = refl
+length-halves (b ∷ bs) = omega (arith, length-halves bs)
+
+length-joined : (hs : List ℕ) → length hs % 2 ≡ 0 → length (joined hs) ≡ length hs / 2
+length-joined [] e = refl
+length-joined (h ∷ []) e = absurd (omega arith)
+length-joined (h ∷ l ∷ hs) e = omega (arith, length-joined hs (omega arith))
+
+are-bytes : (hs : List ℕ) → Under 16 hs → Bytes (joined hs)
+are-bytes [] u = tt
+are-bytes (h ∷ []) u = (omega arith, tt)
+are-bytes (h ∷ l ∷ hs) u = (omega arith, are-bytes hs (u .1 .1))
+
+halves-joined : (hs : List ℕ) → Under 16 hs → length hs % 2 ≡ 0 → halves (joined hs) ≡ hs
+halves-joined [] u e = refl
+halves-joined (h ∷ []) u e = absurd (omega arith)
+halves-joined (h ∷ l ∷ hs) u e =
+    let a : (h * 16 + l) / 16 ≡ h = omega arith in
+    let b : (h * 16 + l) % 16 ≡ l = omega arith in
+    let r = halves-joined hs (u .1 .1) (omega arith) in
+    cc
+
+packed-size : (size : ℕ) (bs : List ℕ) → length bs ≡ size / 2 + 1 → Cases (packed-value size bs) (Unit {0}) (λ z. natAbs z < (0 + 1) * 10 ^ size)
+packed-size size [] l = absurd (omega arith)
+packed-size size (b ∷ bs) l = go (even size) refl
+  where
+    spared : (u : Bool) → even size ≡ true → Cases (cond u (digits-then-sign 0 (b % 16 ∷ halves bs)) None) (Unit {0}) (λ z. natAbs z < (0 + 1) * 10 ^ size)
+    spared true e = digits-size size 0 (b % 16 ∷ halves bs) (omega (arith, length-halves bs, eqb-true (size % 2) 0 e))
+    spared false e = tt
+
+    go : (t : Bool) → even size ≡ t → Cases (past-spare t (halves (b ∷ bs))) (Unit {0}) (λ z. natAbs z < (0 + 1) * 10 ^ size)
+    go true e = spared (eqb (b / 16) 0) e
+    go false e = digits-size size 0 (halves (b ∷ bs)) (omega (arith, length-halves bs, eqb-false (size % 2) 0 e))
+
+module _ (size : ℕ) (some : 1 ≤ size) (few : size ≤ 15) where
+  -- the halves of an image
+  written : ℤ → List ℕ
+  written z = spare size ++ digits 10 size (natAbs z) ++ sign-of z ∷ []
+
+  length-written : (z : ℤ) → length (written z) ≡ (size / 2 + 1) * 2
+  unfolding written
+  length-written z = go (even size) refl
+    where
+      go : (t : Bool) → even size ≡ t → length (cond t (0 ∷ []) [] ++ digits 10 size (natAbs z) ++ sign-of z ∷ []) ≡ (size / 2 + 1) * 2
+      go true e = simp (length-append, length-digits) (omega (arith, eqb-true (size % 2) 0 e))
+      go false e = simp (length-append, length-digits) (omega (arith, eqb-false (size % 2) 0 e))
+
+  under-written : (z : ℤ) → Under 16 (written z)
+  unfolding written
+  under-written z =
+      all-append (λ d. d < 16) (spare size ++ digits 10 size (natAbs z)) (sign-of z ∷ [])
+      (all-append (λ d. d < 16) (spare size) (digits 10 size (natAbs z)) (go (even size)) (all-weaker (λ d. d < 10) (λ d. d < 16) (λ d h. omega arith) (digits 10 size (natAbs z)) (under-digits 10 size (natAbs z) (omega arith))))
+      (sign-small z, tt)
+    where
+      go : (t : Bool) → Under 16 (cond t (0 ∷ []) [])
+      go true = (omega arith, tt)
+      go false = tt
+
+  image-back : (z : ℤ) → natAbs z < 10 ^ size → packed-value size (packed-image size z) ≡ Some z
+  unfolding written
+  image-back z h = ap (past-spare (even size)) (halves-joined (written z) (under-written z) (omega (arith, length-written z))) ∙ go (even size)
+    where
+      value : digits-then-sign 0 (digits 10 size (natAbs z) ++ sign-of z ∷ []) ≡ Some z
+      value =
+          digits-on 0 (sign-of z) (digits 10 size (natAbs z)) (under-digits 10 size (natAbs z) (omega arith))
+          ∙ ap (with-sign (sign-of z)) (number-digits 10 size (natAbs z) (omega arith) h) ∙ with-sign-of z
+
+      go : (t : Bool) → past-spare t (cond t (0 ∷ []) [] ++ digits 10 size (natAbs z) ++ sign-of z ∷ []) ≡ Some z
+      go true = value
+      go false = value
+
+  pub packed-lawful : LawfulForm (packed size)
+  unfolding written
+  packed-lawful =
+      let lim = decimal-limits size some few in
+      let within : (z : ℤ) → Within (packed size) z → natAbs z < 10 ^ size = λ z w. size-in-range (10 ^ size) z (omega arith) (w .above) (w .below) in
+      record {
+        some-bytes = omega arith;
+        few-bytes = omega arith;
+        low-reach = omega (arith, ints);
+        high-reach = omega (arith, ints);
+        low-bound = omega (arith, ints);
+        high-bound = omega (arith, ints);
+        held = λ bs _ l. cases-weaker (λ z h. let r = in-range (10 ^ size) z (omega arith) (rw (one-mul (10 ^ size)) at h) in record { above = r .0; below = r .1 }) (packed-value size bs) (packed-size size bs l);
+        long = λ z w. length-joined (written z) (omega (arith, length-written z)) ∙ omega (arith, length-written z);
+        bytes = λ z w. are-bytes (written z) (under-written z);
+        back = λ z w. image-back z (within z w);
+      }

@@ -1,0 +1,101 @@
+-- Laws of the zoned form: a loop's step for reading and for writing, and what it owes as a form.
+use mathlib.Core.Path.{_≡_, refl, sym, ap, _∙_}
+use mathlib.Core.List.{List, [], _∷_, _++_}
+use Prim.Native.Nat.{ℕ, zero, suc, _+_, _-_, _*_, _/_, _%_, _^_, _<_, _≤_}
+use native.Mathlib.Nat.{one-mul}
+use native.Mathlib.Omega.{arith}
+use lib.IntN.{ℤ, pos, negsuc, natAbs}
+use lib.ListN.{length, length-append}
+use Rattle.std.proofs.shelf.Signed.{ints}
+use Rattle.std.specs.declared.option.Option.the-variants.{Some, None}
+use Rattle.std.specs.Options.{Cases}
+use Rattle.std.specs.shelf.Lists.{All}
+use Rattle.std.specs.shelf.Digits.{number, Under}
+use Rattle.bank.specs.Model.{Form, Within, LawfulForm, Bytes}
+use Rattle.encodings.specs.Digits.{digits}
+use Rattle.encodings.specs.Decimal.{low, high, with-sign, digits-then-sign, sign-of, zoned, zoned-halves, zoned-bytes, zoned-image, zoned-value}
+use Rattle.encodings.proofs.Digits.{length-digits, under-digits, number-digits}
+use Rattle.encodings.proofs.Decimal.{digit-on, digit-bad, digits-on, with-sign-of, digits-size, in-range, size-in-range, cases-weaker, decimal-limits, sign-small}
+
+halves-some : (b : ℕ) (bs : List ℕ) → 0 < length (zoned-halves (b ∷ bs))
+halves-some b [] = omega arith
+halves-some b (c ∷ bs) = omega arith
+
+-- ---- reading: a byte before the last, and the last
+
+pub zoned-on : (n b : ℕ) (bs : List ℕ) → 0 < length bs → b % 16 ≤ 9 → digits-then-sign n (zoned-halves (b ∷ bs)) ≡ digits-then-sign (n * 10 + b % 16) (zoned-halves bs)
+zoned-on n b [] l h = absurd (omega arith)
+zoned-on n b (c ∷ bs) l h = digit-on n (b % 16) (zoned-halves (c ∷ bs)) (halves-some c bs) h
+
+pub zoned-bad : (n b : ℕ) (bs : List ℕ) → 9 < b % 16 → digits-then-sign n (zoned-halves (b ∷ bs)) ≡ None
+zoned-bad n b [] h = digit-bad n (b % 16) (b / 16 ∷ []) (omega arith) h
+zoned-bad n b (c ∷ bs) h = digit-bad n (b % 16) (zoned-halves (c ∷ bs)) (halves-some c bs) h
+
+pub zoned-last : (n b : ℕ) → b % 16 ≤ 9 → digits-then-sign n (zoned-halves (b ∷ [])) ≡ with-sign (b / 16) (n * 10 + b % 16)
+zoned-last n b h = digit-on n (b % 16) (b / 16 ∷ []) (omega arith) h
+
+-- ---- writing: one byte more in front
+
+pub zoned-more : (s k n : ℕ) → 0 < k → zoned-bytes s (digits 10 (suc k) n) ≡ (240 + n / 10 ^ k % 10) ∷ zoned-bytes s (digits 10 k n)
+zoned-more s zero n h = absurd (omega arith)
+zoned-more s (suc k) n h = refl
+
+-- ---- what the form owes
+
+length-halves : (bs : List ℕ) → 0 < length bs → length (zoned-halves bs) ≡ suc (length bs)
+length-halves [] l = absurd (omega arith)
+length-halves (b ∷ []) l = refl
+length-halves (b ∷ c ∷ bs) l = ap suc (length-halves (c ∷ bs) (omega arith))
+
+length-bytes : (s : ℕ) (ds : List ℕ) → length (zoned-bytes s ds) ≡ length ds
+length-bytes s [] = refl
+length-bytes s (d ∷ []) = refl
+length-bytes s (d ∷ e ∷ ds) = ap suc (length-bytes s (e ∷ ds))
+
+are-bytes : (s : ℕ) (ds : List ℕ) → s < 16 → Under 10 ds → Bytes (zoned-bytes s ds)
+are-bytes s [] h u = tt
+are-bytes s (d ∷ []) h u = (omega arith, tt)
+are-bytes s (d ∷ e ∷ ds) h u = (omega arith, are-bytes s (e ∷ ds) h (u .1))
+
+halves-bytes : (s : ℕ) (ds : List ℕ) → s < 16 → Under 10 ds → 0 < length ds → zoned-halves (zoned-bytes s ds) ≡ ds ++ s ∷ []
+halves-bytes s [] h u l = absurd (omega arith)
+halves-bytes s (d ∷ []) h u l =
+    let a : (s * 16 + d) % 16 ≡ d = omega arith in
+    let b : (s * 16 + d) / 16 ≡ s = omega arith in
+    cc
+halves-bytes s (d ∷ e ∷ []) h u l =
+    let a : (240 + d) % 16 ≡ d = omega arith in
+    let r = halves-bytes s (e ∷ []) h (u .1) (omega arith) in
+    cc
+halves-bytes s (d ∷ e ∷ f ∷ ds) h u l =
+    let a : (240 + d) % 16 ≡ d = omega arith in
+    let r = halves-bytes s (e ∷ f ∷ ds) h (u .1) (omega arith) in
+    cc
+
+module _ (size : ℕ) (some : 1 ≤ size) (few : size ≤ 15) where
+  image-back : (z : ℤ) → natAbs z < 10 ^ size → zoned-value (zoned-image size z) ≡ Some z
+  image-back z h =
+      let u = under-digits 10 size (natAbs z) (omega arith) in
+      let l : 0 < length (digits 10 size (natAbs z)) = omega (arith, length-digits 10 size (natAbs z)) in
+      let e = halves-bytes (sign-of z) (digits 10 size (natAbs z)) (sign-small z) u l in
+      let d = digits-on 0 (sign-of z) (digits 10 size (natAbs z)) u in
+      let n = number-digits 10 size (natAbs z) (omega arith) h in
+      let w = with-sign-of z in
+      rw (e, d, n) w
+
+  pub zoned-lawful : LawfulForm (zoned size)
+  zoned-lawful =
+      let lim = decimal-limits size some few in
+      let within : (z : ℤ) → Within (zoned size) z → natAbs z < 10 ^ size = λ z w. size-in-range (10 ^ size) z (omega arith) (w .above) (w .below) in
+      record {
+        some-bytes = some;
+        few-bytes = omega arith;
+        low-reach = omega (arith, ints);
+        high-reach = omega (arith, ints);
+        low-bound = omega (arith, ints);
+        high-bound = omega (arith, ints);
+        held = λ bs _ l. cases-weaker (λ z h. let r = in-range (10 ^ size) z (omega arith) (rw (one-mul (10 ^ size)) at h) in record { above = r .0; below = r .1 }) (zoned-value bs) (digits-size size 0 (zoned-halves bs) (length-halves bs (omega arith) ∙ ap suc l));
+        long = λ z w. length-bytes (sign-of z) (digits 10 size (natAbs z)) ∙ length-digits 10 size (natAbs z);
+        bytes = λ z w. are-bytes (sign-of z) (digits 10 size (natAbs z)) (sign-small z) (under-digits 10 size (natAbs z) (omega arith));
+        back = λ z w. image-back z (within z w);
+      }
