@@ -1,5 +1,7 @@
 // Banks of number forms: what a bank answers, and two banks side by side.
 ghost use mathlib.Core.Path.{_≡_};
+ghost use mathlib.Core.Bool.{_&&_};
+ghost use lib.Signed.{leZ};
 ghost use Rattle.bank.specs.Model.{Forms, Lawful, beside};
 ghost use Rattle.bank.specs.Answers.{shape-of, read-by, Writes};
 
@@ -18,6 +20,15 @@ pub struct Shape {
     pub width: usize,
     pub low: i64,
     pub high: i64,
+}
+
+impl Shape {
+    // Whether the number is in the range.
+    pub fn holds(&self, number: i64) -> bool
+        ensures { λ r. ⌜ r ≡ (leZ (now (self .entry) .low) number && leZ number (now (self .entry) .high)) ⌝ }
+    {
+        self.low <= number && number <= self.high
+    }
 }
 
 // A bank has a number form for a letter and a size, or lacks it, always alike.

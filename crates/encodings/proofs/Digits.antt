@@ -2,9 +2,10 @@
 use mathlib.Core.Path.{_≡_, refl, sym, ap, _∙_}
 use mathlib.Core.List.{List, [], _∷_}
 use Prim.Native.Nat.{ℕ, zero, suc, _+_, _-_, _*_, _/_, _%_, _^_, _<_, _≤_}
-use native.Mathlib.Nat.{add-mul, mul-assoc, mul-one, pow-zero, pow-succ', one-le-pow, mod-lt, mod-eq-of-lt, mod-one}
+use native.Mathlib.Nat.{add-mul, mul-assoc, mul-one, pow-zero, pow-succ', one-le-pow, mod-lt, mod-eq-of-lt, mod-one, pow-suc, pow-le-pow-right}
 use native.Mathlib.Omega.{arith}
-use lib.Arith.{mod-mul}
+use native.Mathlib.Numerals.{add-one}
+use lib.Arith.{mod-mul, digits-lt}
 use lib.ListN.{length}
 use Rattle.std.specs.shelf.Lists.{All}
 use Rattle.std.specs.shelf.Digits.{numberAfter, number, Under}
@@ -29,3 +30,11 @@ after-digits b (suc k) m n h =
 
 pub number-digits : (b k n : ℕ) → 0 < b → n < b ^ k → number b (digits b k n) ≡ n
 number-digits b k n h l = omega (arith, after-digits b k 0 n h, mod-eq-of-lt l)
+
+-- ---- how far a number of i digits reaches
+
+pub digits-within : (b i k n : ℕ) → 0 < b → n < b ^ i → i ≤ k → n < b ^ k
+digits-within b i k n h l m = omega (arith, pow-le-pow-right h m)
+
+pub digits-more : (b i n d : ℕ) → n < b ^ i → d < b → n * b + d < b ^ (i + 1)
+digits-more b i n d l h = rw (add-one i, pow-suc b i) (digits-lt l h)

@@ -1,4 +1,5 @@
 pub mod Digits
+pub mod Backward
 pub mod Decimal
 pub mod Zoned
 pub mod Packed

@@ -4,12 +4,13 @@ use mathlib.Core.Bool.{Bool, true, false, cond}
 use mathlib.Core.List.{List, [], _∷_, _++_}
 use mathlib.Core.Logic.{_⊎_, inl, inr}
 use Prim.Native.Nat.{ℕ, zero, suc, _+_, _-_, _*_, _/_, _%_, _^_, _<_, _≤_}
-use native.Mathlib.Nat.{one-mul, div-one, div-eq-of-lt}
+use native.Mathlib.Nat.{one-mul, div-one, div-eq-of-lt, div-div-eq-div-mul}
 use native.Mathlib.Omega.{arith}
 use borrow.Author.Tests.{eqb-true, eqb-false, eq-eqb, ne-eqb}
 use lib.Dec.{eqb}
 use lib.IntN.{ℤ, pos, negsuc, natAbs}
-use lib.ListN.{length, length-append}
+use lib.ListN.{length, getD, drop, length-append, length-drop}
+use Rattle.std.proofs.shelf.Lists.{at-drop-more, drop-all}
 use Rattle.std.specs.declared.option.Option.the-variants.{Some, None}
 use Rattle.std.specs.Options.{Cases}
 use Rattle.std.specs.shelf.Lists.{All}
@@ -21,25 +22,28 @@ use Rattle.bank.specs.Model.{Form, Within, LawfulForm, Bytes}
 use Rattle.encodings.specs.Digits.{digits}
 use Rattle.encodings.specs.Decimal.{low, high, with-sign, digits-then-sign, sign-of, even, halves, joined, spare, packed, packed-image, packed-value, past-spare}
 use Rattle.encodings.proofs.Digits.{length-digits, under-digits, number-digits}
+use Rattle.encodings.proofs.Backward.{quotient-more}
 use Rattle.encodings.proofs.Decimal.{digit-on, digit-bad, digits-on, with-sign-of, sign-small, digits-size, in-range, size-in-range, cases-weaker, decimal-limits}
 
 -- ---- reading: the spare half, a byte before the last, and the last
 
-pub packed-spare : (size b : ℕ) (bs : List ℕ) → size % 2 ≡ 0 → 0 < b / 16 → packed-value size (b ∷ bs) ≡ None
-packed-spare size b bs e h = rw (eq-eqb (size % 2) 0 e) (grind (arith, tells))
+pub packed-spare : (size : ℕ) (xs : List ℕ) → 0 < length xs → size % 2 ≡ 0 → 0 < getD xs 0 0 / 16 → packed-value size xs ≡ None
+packed-spare size [] l e h = absurd (omega arith)
+packed-spare size (b ∷ bs) l e h = rw (eq-eqb (size % 2) 0 e) (grind (arith, tells))
 
-pub packed-start : (size b : ℕ) (bs : List ℕ) → (size % 2 ≡ 0 → ⊥) ⊎ (b / 16 ≡ 0) → packed-value size (b ∷ bs) ≡ digits-then-sign 0 (halves (b ∷ bs))
-packed-start size b bs (inl h) = rw (ne-eqb (size % 2) 0 h)
-packed-start size b bs (inr h) = go (even size)
+pub packed-start : (size : ℕ) (xs : List ℕ) → 0 < length xs → (size % 2 ≡ 0 → ⊥) ⊎ (getD xs 0 0 / 16 ≡ 0) → packed-value size xs ≡ digits-then-sign 0 (halves xs)
+packed-start size [] l h = absurd (omega arith)
+packed-start size (b ∷ bs) l (inl h) = rw (ne-eqb (size % 2) 0 h)
+packed-start size (b ∷ bs) l (inr h) = go (even size)
   where
     go : (t : Bool) → past-spare t (halves (b ∷ bs)) ≡ digits-then-sign 0 (halves (b ∷ bs))
     go true = let z : 0 + b / 16 ≡ 0 = omega arith in grind (arith, tells)
     go false = refl
 
-pub packed-on : (n b : ℕ) (bs : List ℕ) → 0 < length bs → b / 16 ≤ 9 → b % 16 ≤ 9 → digits-then-sign n (halves (b ∷ bs)) ≡ digits-then-sign (n * 100 + b / 16 * 10 + b % 16) (halves bs)
+pub packed-on : (n b : ℕ) (bs : List ℕ) → 0 < length bs → b / 16 ≤ 9 → b % 16 ≤ 9 → digits-then-sign n (halves (b ∷ bs)) ≡ digits-then-sign (n * 100 + (b / 16 * 10 + b % 16)) (halves bs)
 packed-on n b [] l h k = absurd (omega arith)
 packed-on n b (c ∷ bs) l h k =
-    let e : (n * 10 + b / 16) * 10 + b % 16 ≡ n * 100 + b / 16 * 10 + b % 16 = omega arith in
+    let e : (n * 10 + b / 16) * 10 + b % 16 ≡ n * 100 + (b / 16 * 10 + b % 16) = omega arith in
     digit-on n (b / 16) (b % 16 ∷ halves (c ∷ bs)) (omega arith) h ∙ digit-on (n * 10 + b / 16) (b % 16) (halves (c ∷ bs)) (omega arith) k
     ∙ ap (λ m. digits-then-sign m (halves (c ∷ bs))) e
 
@@ -53,6 +57,29 @@ packed-last n b h = digit-on n (b / 16) (b % 16 ∷ []) (omega arith) h
 
 pub packed-last-bad : (n b : ℕ) → 9 < b / 16 → digits-then-sign n (halves (b ∷ [])) ≡ None
 packed-last-bad n b h = digit-bad n (b / 16) (b % 16 ∷ []) (omega arith) h
+
+-- the same at a place of the string
+module _ (xs : List ℕ) (i n : ℕ) where
+  pub packed-at-on : i + 1 < length xs → getD xs i 0 / 16 ≤ 9 → getD xs i 0 % 16 ≤ 9 → digits-then-sign n (halves (drop i xs)) ≡ digits-then-sign (n * 100 + (getD xs i 0 / 16 * 10 + getD xs i 0 % 16)) (halves (drop (i + 1) xs))
+  packed-at-on l h k =
+      at-drop-more (λ ys. digits-then-sign n (halves ys)) xs i 0 (omega arith)
+      ∙ packed-on n (getD xs i 0) (drop (i + 1) xs) (simp length-drop (omega arith)) h k
+
+  pub packed-at-bad : i + 1 < length xs → (9 < getD xs i 0 / 16) ⊎ (9 < getD xs i 0 % 16) → digits-then-sign n (halves (drop i xs)) ≡ None
+  packed-at-bad l h =
+      at-drop-more (λ ys. digits-then-sign n (halves ys)) xs i 0 (omega arith)
+      ∙ packed-bad n (getD xs i 0) (drop (i + 1) xs) (simp length-drop (omega arith)) h
+
+  at-last : i + 1 ≡ length xs → digits-then-sign n (halves (drop i xs)) ≡ digits-then-sign n (halves (getD xs i 0 ∷ []))
+  at-last l =
+      at-drop-more (λ ys. digits-then-sign n (halves ys)) xs i 0 (omega arith)
+      ∙ ap (λ ys. digits-then-sign n (halves (getD xs i 0 ∷ ys))) (drop-all (i + 1) xs (omega arith))
+
+  pub packed-at-last : i + 1 ≡ length xs → getD xs i 0 / 16 ≤ 9 → digits-then-sign n (halves (drop i xs)) ≡ with-sign (getD xs i 0 % 16) (n * 10 + getD xs i 0 / 16)
+  packed-at-last l h = at-last l ∙ packed-last n (getD xs i 0) h
+
+  pub packed-at-last-bad : i + 1 ≡ length xs → 9 < getD xs i 0 / 16 → digits-then-sign n (halves (drop i xs)) ≡ None
+  packed-at-last-bad l h = at-last l ∙ packed-last-bad n (getD xs i 0) h
 
 -- ---- writing: the last byte, one byte more in front, and all of them
 
@@ -68,6 +95,19 @@ tail-step s k a b n e f = rw (e, f)
 
 pub tail-more : (s w n : ℕ) → 0 < w → tail s (suc w) n ≡ (n / 10 ^ (w * 2) % 10 * 16 + n / 10 ^ (w * 2 - 1) % 10) ∷ tail s w n
 tail-more s w n h = tail-step s (w * 2 - 1) (suc w * 2 - 1) (w * 2) n (omega arith) (omega arith)
+
+-- what is left of the magnitude when w bytes are written, and the byte made of it
+module _ (w m r : ℕ) (h : 0 < w) (e : r ≡ m / 10 ^ (w * 2 - 1)) where
+  rest-half : r / 10 ≡ m / 10 ^ (w * 2)
+  rest-half = let k : suc (w * 2 - 1) ≡ w * 2 = omega arith in quotient-more 10 m (w * 2 - 1) r e ∙ ap (λ k. m / 10 ^ k) k
+
+  pub rest-byte : r / 10 % 10 * 16 + r % 10 ≡ m / 10 ^ (w * 2) % 10 * 16 + m / 10 ^ (w * 2 - 1) % 10
+  rest-byte = cc (rest-half, e)
+
+  pub rest-more : r / 100 ≡ m / 10 ^ (suc w * 2 - 1)
+  rest-more =
+      let k : suc (w * 2) ≡ suc w * 2 - 1 = omega arith in
+      sym (div-div-eq-div-mul r 10 10) ∙ quotient-more 10 m (w * 2) (r / 10) rest-half ∙ ap (λ k. m / 10 ^ k) k
 
 top-zero : (size n : ℕ) → n < 10 ^ size → digits 10 (suc size) n ≡ 0 ∷ digits 10 size n
 top-zero size n l = ap (λ q. (q % 10) ∷ digits 10 size n) (div-eq-of-lt l)

@@ -5,7 +5,8 @@ use Prim.Native.Nat.{ℕ, zero, suc, _+_, _-_, _*_, _/_, _%_, _^_, _<_, _≤_}
 use native.Mathlib.Nat.{one-mul}
 use native.Mathlib.Omega.{arith}
 use lib.IntN.{ℤ, pos, negsuc, natAbs}
-use lib.ListN.{length, length-append}
+use lib.ListN.{length, getD, drop, length-drop}
+use Rattle.std.proofs.shelf.Lists.{at-drop-more, drop-all}
 use Rattle.std.proofs.shelf.Signed.{ints}
 use Rattle.std.specs.declared.option.Option.the-variants.{Some, None}
 use Rattle.std.specs.Options.{Cases}
@@ -33,6 +34,21 @@ zoned-bad n b (c ∷ bs) h = digit-bad n (b % 16) (zoned-halves (c ∷ bs)) (hal
 
 pub zoned-last : (n b : ℕ) → b % 16 ≤ 9 → digits-then-sign n (zoned-halves (b ∷ [])) ≡ with-sign (b / 16) (n * 10 + b % 16)
 zoned-last n b h = digit-on n (b % 16) (b / 16 ∷ []) (omega arith) h
+
+-- the same at a place of the string
+module _ (xs : List ℕ) (i n : ℕ) where
+  pub zoned-at-on : i + 1 < length xs → getD xs i 0 % 16 ≤ 9 → digits-then-sign n (zoned-halves (drop i xs)) ≡ digits-then-sign (n * 10 + getD xs i 0 % 16) (zoned-halves (drop (i + 1) xs))
+  zoned-at-on l h =
+      at-drop-more (λ ys. digits-then-sign n (zoned-halves ys)) xs i 0 (omega arith)
+      ∙ zoned-on n (getD xs i 0) (drop (i + 1) xs) (simp length-drop (omega arith)) h
+
+  pub zoned-at-bad : i < length xs → 9 < getD xs i 0 % 16 → digits-then-sign n (zoned-halves (drop i xs)) ≡ None
+  zoned-at-bad l h = at-drop-more (λ ys. digits-then-sign n (zoned-halves ys)) xs i 0 l ∙ zoned-bad n (getD xs i 0) (drop (i + 1) xs) h
+
+  pub zoned-at-last : i + 1 ≡ length xs → getD xs i 0 % 16 ≤ 9 → digits-then-sign n (zoned-halves (drop i xs)) ≡ with-sign (getD xs i 0 / 16) (n * 10 + getD xs i 0 % 16)
+  zoned-at-last l h =
+      at-drop-more (λ ys. digits-then-sign n (zoned-halves ys)) xs i 0 (omega arith)
+      ∙ ap (λ ys. digits-then-sign n (zoned-halves (getD xs i 0 ∷ ys))) (drop-all (i + 1) xs (omega arith)) ∙ zoned-last n (getD xs i 0) h
 
 -- ---- writing: one byte more in front
 

@@ -1,0 +1,19 @@
+use mathlib.Core.Path.{refl}
+use Rattle.examples.proofs.examples_stand.Needs as need
+
+pub returns : need.returns
+returns c = record {
+  forms = record {
+    plus-c = refl;
+    plus-f = refl;
+    minus-d = refl;
+    minus-zero = refl;
+    no-sign = refl;
+    even-size = refl;
+    spare-used = refl;
+    other-zones = refl;
+    zoned-minus = refl;
+    binary-highest = refl;
+    binary-over = refl;
+  };
+}

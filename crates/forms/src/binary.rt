@@ -1,0 +1,66 @@
+// Binary numbers: the highest byte first, and two's complement where there is a sign.
+ghost use mathlib.Core.Path.{_≡_};
+ghost use mathlib.Core.Bool.{true, _||_};
+ghost use Prim.Native.Nat.{_^_, _<_, _≤_};
+ghost use lib.Dec.{eqb};
+ghost use lib.IntN.{natAbs};
+ghost use lib.ListN.{length};
+ghost use Rattle.std.specs.shelf.Digits.{number};
+ghost use Rattle.encodings.specs.Digits.{digits};
+ghost use Rattle.encodings.specs.Binary.{complement, from-complement};
+
+// How many strings there are of so many bytes.
+pub(crate) fn count(size: u8) -> u64
+    requires { ⌜ (eqb size 2 || eqb size 4) ≡ true ⌝ }
+    ensures { λ r. ⌜ r ≡ 256 ^ size ⌝ }
+{
+    if size == 2 { 65_536 } else { 4_294_967_296 }
+}
+
+// The bytes as one number.
+pub(crate) fn whole(part: &[u8]) -> u64
+    requires { ⌜ length (now part) ≤ 4 ⌝ }
+    ensures value { λ r. ⌜ r ≡ number 256 (now (part .entry)) ⌝ }
+    ensures bound { λ r. ⌜ r < 256 ^ length (now (part .entry)) ⌝ }
+{
+    let mut n: u64 = 0;
+    for i in 0..part.len() {
+        n = n * 256 + part[i] as u64;
+    }
+    n
+}
+
+// A number from its two's complement, and back.
+pub(crate) fn from_complement(size: u8, bits: u64) -> i64
+    requires { ⌜ (eqb size 2 || eqb size 4) ≡ true ⌝ ∗ ⌜ bits < 256 ^ size ⌝ }
+    ensures { λ r. ⌜ r ≡ from-complement size bits ⌝ }
+{
+    let all = count(size);
+    if bits < all / 2 {
+        bits as i64
+    } else {
+        bits as i64 - all as i64
+    }
+}
+
+pub(crate) fn complement(size: u8, number: i64) -> u64
+    requires { ⌜ (eqb size 2 || eqb size 4) ≡ true ⌝ ∗ ⌜ natAbs number < 256 ^ size ⌝ }
+    ensures { λ r. ⌜ r ≡ complement size number ⌝ }
+{
+    if number >= 0 {
+        number as u64
+    } else {
+        (count(size) as i64 + number) as u64
+    }
+}
+
+// Writes the lowest bytes of the bits, as many as there are.
+pub(crate) fn put(bits: u64, part: &mut [u8])
+    ensures { λ _. ⌜ now (part .exit) ≡ digits 256 (length (now (part .entry))) bits ⌝ }
+{
+    let mut rest = bits;
+    for i in (0..part.len()).rev() {
+        part[i] = (rest % 256) as u8;
+        rest /= 256;
+    }
+}
