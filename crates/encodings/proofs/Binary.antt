@@ -9,7 +9,7 @@ use borrow.Author.Tests.{ltb-true, ltb-false, lt-ltb, le-ltb}
 use lib.Dec.{ltb}
 use lib.IntN.{ℤ, pos, negsuc, natAbs}
 use lib.Signed.{_≤ℤ_}
-use lib.ListN.{length}
+use lib.ListN.{length, getD}
 use Rattle.std.specs.declared.option.Option.the-variants.{Some}
 use Rattle.std.specs.shelf.Digits.{number, Under}
 use Rattle.std.proofs.shelf.Digits.{number-lt}
@@ -31,6 +31,21 @@ byte-limits (suc k) h l =
 unsigned-back : (k : ℕ) (z : ℤ) → Within (unsigned k) z → 0 < 256 ^ k → unsigned k .value (unsigned k .image z) ≡ Some z
 unsigned-back k (pos n) w h = ap (λ m. Some (pos m)) (number-digits 256 k n (omega arith) (omega (arith, ints, w .below)))
 unsigned-back k (negsuc n) w h = absurd (w .above .le)
+
+-- the number of 2 and of 4 bytes
+pub number-of-two : (xs : List ℕ) → length xs ≡ 2 → number 256 xs ≡ getD xs 0 0 * 256 + getD xs 1 0
+number-of-two [] l = absurd (omega arith)
+number-of-two (a ∷ []) l = absurd (omega arith)
+number-of-two (a ∷ b ∷ []) l = omega arith
+number-of-two (a ∷ b ∷ c ∷ xs) l = absurd (omega arith)
+
+pub number-of-four : (xs : List ℕ) → length xs ≡ 4 → number 256 xs ≡ (getD xs 0 0 * 256 + getD xs 1 0) * 65536 + (getD xs 2 0 * 256 + getD xs 3 0)
+number-of-four [] l = absurd (omega arith)
+number-of-four (a ∷ []) l = absurd (omega arith)
+number-of-four (a ∷ b ∷ []) l = absurd (omega arith)
+number-of-four (a ∷ b ∷ c ∷ []) l = absurd (omega arith)
+number-of-four (a ∷ b ∷ c ∷ d ∷ []) l = omega arith
+number-of-four (a ∷ b ∷ c ∷ d ∷ e ∷ xs) l = absurd (omega arith)
 
 pub unsigned-lawful : (k : ℕ) → 1 ≤ k → k ≤ 6 → LawfulForm (unsigned k)
 unsigned-lawful k some few =

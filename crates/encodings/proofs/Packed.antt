@@ -1,13 +1,13 @@
 -- Laws of the packed form: a loop's step for reading and for writing, and what it owes as a form.
 use mathlib.Core.Path.{_≡_, refl, sym, ap, _∙_}
-use mathlib.Core.Bool.{Bool, true, false, cond}
+use mathlib.Core.Bool.{Bool, true, false, cond, _&&_}
 use mathlib.Core.List.{List, [], _∷_, _++_}
 use mathlib.Core.Logic.{_⊎_, inl, inr}
 use Prim.Native.Nat.{ℕ, zero, suc, _+_, _-_, _*_, _/_, _%_, _^_, _<_, _≤_}
 use native.Mathlib.Nat.{one-mul, div-one, div-eq-of-lt, div-div-eq-div-mul}
 use native.Mathlib.Omega.{arith}
-use borrow.Author.Tests.{eqb-true, eqb-false, eq-eqb, ne-eqb}
-use lib.Dec.{eqb}
+use borrow.Author.Tests.{eqb-true, eqb-false, ltb-false}
+use lib.Dec.{eqb, ltb}
 use lib.IntN.{ℤ, pos, negsuc, natAbs}
 use lib.ListN.{length, getD, drop, length-append, length-drop}
 use Rattle.std.proofs.shelf.Lists.{at-drop-more, drop-all}
@@ -17,6 +17,7 @@ use Rattle.std.specs.shelf.Lists.{All}
 use Rattle.std.specs.shelf.Digits.{number, Under}
 use Rattle.std.proofs.shelf.Elements.{all-append, all-weaker}
 use Rattle.std.proofs.shelf.Signed.{ints}
+use Rattle.std.proofs.shelf.Tests.{and-parts}
 use Rattle.std.proofs.shelf.Ways.{tells}
 use Rattle.bank.specs.Model.{Form, Within, LawfulForm, Bytes}
 use Rattle.encodings.specs.Digits.{digits}
@@ -27,18 +28,17 @@ use Rattle.encodings.proofs.Decimal.{digit-on, digit-bad, digits-on, with-sign
 
 -- ---- reading: the spare half, a byte before the last, and the last
 
-pub packed-spare : (size : ℕ) (xs : List ℕ) → 0 < length xs → size % 2 ≡ 0 → 0 < getD xs 0 0 / 16 → packed-value size xs ≡ None
-packed-spare size [] l e h = absurd (omega arith)
-packed-spare size (b ∷ bs) l e h = rw (eq-eqb (size % 2) 0 e) (grind (arith, tells))
+pub packed-spare : (size : ℕ) (xs : List ℕ) → 0 < length xs → (even size && ltb 0 (getD xs 0 0 / 16)) ≡ true → packed-value size xs ≡ None
+packed-spare size [] l e = absurd (omega arith)
+packed-spare size (b ∷ bs) l e = let p = and-parts (even size) (ltb 0 (b / 16)) e in rw (p .0) (grind (arith, tells, p .1))
 
-pub packed-start : (size : ℕ) (xs : List ℕ) → 0 < length xs → (size % 2 ≡ 0 → ⊥) ⊎ (getD xs 0 0 / 16 ≡ 0) → packed-value size xs ≡ digits-then-sign 0 (halves xs)
-packed-start size [] l h = absurd (omega arith)
-packed-start size (b ∷ bs) l (inl h) = rw (ne-eqb (size % 2) 0 h)
-packed-start size (b ∷ bs) l (inr h) = go (even size)
+pub packed-start : (size : ℕ) (xs : List ℕ) → 0 < length xs → (even size && ltb 0 (getD xs 0 0 / 16)) ≡ false → packed-value size xs ≡ digits-then-sign 0 (halves xs)
+packed-start size [] l e = absurd (omega arith)
+packed-start size (b ∷ bs) l e = go (even size) e
   where
-    go : (t : Bool) → past-spare t (halves (b ∷ bs)) ≡ digits-then-sign 0 (halves (b ∷ bs))
-    go true = let z : 0 + b / 16 ≡ 0 = omega arith in grind (arith, tells)
-    go false = refl
+    go : (t : Bool) → (t && ltb 0 (b / 16)) ≡ false → past-spare t (halves (b ∷ bs)) ≡ digits-then-sign 0 (halves (b ∷ bs))
+    go true e = let z : 0 + b / 16 ≡ 0 = omega (arith, ltb-false 0 (b / 16) e) in grind (arith, tells)
+    go false e = refl
 
 pub packed-on : (n b : ℕ) (bs : List ℕ) → 0 < length bs → b / 16 ≤ 9 → b % 16 ≤ 9 → digits-then-sign n (halves (b ∷ bs)) ≡ digits-then-sign (n * 100 + (b / 16 * 10 + b % 16)) (halves bs)
 packed-on n b [] l h k = absurd (omega arith)

@@ -1,7 +1,7 @@
 // Binary numbers: the highest byte first, and two's complement where there is a sign.
 ghost use mathlib.Core.Path.{_≡_};
 ghost use mathlib.Core.Bool.{true, _||_};
-ghost use Prim.Native.Nat.{_^_, _<_, _≤_};
+ghost use Prim.Native.Nat.{_+_, _*_, _^_, _<_};
 ghost use lib.Dec.{eqb};
 ghost use lib.IntN.{natAbs};
 ghost use lib.ListN.{length};
@@ -17,17 +17,24 @@ pub(crate) fn count(size: u8) -> u64
     if size == 2 { 65_536 } else { 4_294_967_296 }
 }
 
+fn pair(high: u8, low: u8) -> u64
+    ensures { λ r. ⌜ r ≡ high * 256 + low ⌝ }
+{
+    u16::from_be_bytes([high, low]) as u64
+}
+
 // The bytes as one number.
 pub(crate) fn whole(part: &[u8]) -> u64
-    requires { ⌜ length (now part) ≤ 4 ⌝ }
+    requires { ⌜ (eqb (length (now part)) 2 || eqb (length (now part)) 4) ≡ true ⌝ }
     ensures value { λ r. ⌜ r ≡ number 256 (now (part .entry)) ⌝ }
     ensures bound { λ r. ⌜ r < 256 ^ length (now (part .entry)) ⌝ }
 {
-    let mut n: u64 = 0;
-    for i in 0..part.len() {
-        n = n * 256 + part[i] as u64;
+    let high = pair(part[0], part[1]);
+    if part.len() == 2 {
+        high
+    } else {
+        high * 65_536 + pair(part[2], part[3])
     }
-    n
 }
 
 // A number from its two's complement, and back.

@@ -10,7 +10,6 @@ use format::Format;
 
 mod binary;
 mod decimal;
-mod exports;
 mod form;
 mod format;
 mod packed;

@@ -1,20 +1,29 @@
 // Packed numbers: two digits a byte, the sign in the last half; with an even size the first half is spare.
 ghost use mathlib.Core.Path.{_≡_};
+ghost use mathlib.Core.Bool.{_&&_};
 ghost use mathlib.Core.List.{_∷_, [], _++_};
-ghost use Prim.Native.Nat.{_-_, _*_, _<_, _≤_};
+ghost use Prim.Native.Nat.{_-_, _*_, _/_, _<_, _≤_};
+ghost use lib.Dec.{ltb};
 ghost use lib.ListN.{length};
 ghost use Rattle.encodings.specs.Digits.{digits};
-ghost use Rattle.encodings.specs.Decimal.{packed-value, digits-then-sign, halves, joined};
+ghost use Rattle.encodings.specs.Decimal.{packed-value, digits-then-sign, even, halves, joined};
 use crate::decimal;
 
 pub(crate) fn value(size: u8, part: &[u8]) -> Option<i64>
     requires { ⌜ 1 ≤ length (now part) ⌝ ∗ ⌜ length (now part) ≤ 8 ⌝ }
     ensures { λ r. ⌜ r ≡ packed-value size (now (part .entry)) ⌝ }
 {
-    if size % 2 == 0 && part[0] / 16 > 0 {
+    if spare_used(size, part[0]) {
         return None;
     }
     all_halves(part)
+}
+
+// Whether the first byte's high half is spare and not 0.
+fn spare_used(size: u8, first: u8) -> bool
+    ensures { λ r. ⌜ r ≡ (even size && ltb 0 (first / 16)) ⌝ }
+{
+    size % 2 == 0 && first / 16 > 0
 }
 
 // The number of a string in which each half but the last is a digit.

@@ -1,24 +1,31 @@
-use mathlib.Core.Path.{_≡_, ap, subst, _∙_}
-use Prim.Native.Nat.{_+_, _*_, _^_, _<_, _≤_}
+use mathlib.Core.Path.{_≡_, sym, subst, _∙_}
+use Prim.Native.Nat.{ℕ, _+_, _*_, _^_, _<_}
 use native.Mathlib.Omega.{arith}
-use lib.ListN.{length, take}
+use borrow.Author.Tests.{eqb-true}
+use mathlib.Core.List.{List}
+use mathlib.Core.Logic.{⊎-elim}
+use lib.Dec.{eqb}
+use lib.ListN.{length, getD}
+use mir.Val.{Fits}
+use mir.Syntax.{w8}
 use Rattle.std.specs.shelf.Digits.{number}
-use Rattle.std.proofs.shelf.Digits.{number-more}
-use Rattle.std.proofs.shelf.Lists.{take-all}
-use Rattle.encodings.proofs.Digits.{digits-within, digits-more}
+use Rattle.std.proofs.shelf.Digits.{number-lt}
+use Rattle.std.proofs.shelf.Elements.{all-from-getD}
+use Rattle.std.proofs.shelf.Tests.{or-cases}
+use Rattle.encodings.proofs.Binary.{number-of-two, number-of-four}
 use Rattle.forms.proofs.binary.whole.Needs as need
 
-pub mul-n : need.mul-n
-mul-n c = omega (arith, digits-within 256 (c .loop-i .i) 4 (c .loop-i .n) (omega arith) (c .loop-i .inv .1) (omega arith))
+below : (xs : List ℕ) (n : ℕ) → ((i : ℕ) → Fits w8 (getD xs i 0)) → n ≡ number 256 xs → n < 256 ^ length xs
+below xs n fit e = subst (λ m. m < 256 ^ length xs) (sym e) (number-lt 256 xs (all-from-getD (λ b. b < 256) xs 0 (λ i _. fit i .fits)))
 
-pub add-n : need.add-n
-add-n c = omega (arith, digits-within 256 (c .loop-i .i) 4 (c .loop-i .n) (omega arith) (c .loop-i .inv .1) (omega arith), c .typed .part (c .loop-i .i))
+pub returns-then-part-eq2 : need.returns-then-part-eq2
+returns-then-part-eq2 c =
+    let v : c .pair-high .result ≡ number 256 (c .args .part .now) = c .pair-high .ensures ∙ sym (number-of-two (c .args .part .now) (omega arith)) in
+    record { value = v; bound = below (c .args .part .now) _ (c .typed .part) v }
 
-pub loop-i-again : need.loop-i-again
-loop-i-again c = (omega (arith, number-more 256 (c .args .part .now) (c .loop-i .i) (omega arith)), digits-more 256 (c .loop-i .i) (c .loop-i .n) _ (c .loop-i .inv .1) (omega (arith, c .typed .part (c .loop-i .i))))
-
-pub returns : need.returns
-returns c =
-    let xs = c .args .part .now in
-    let e : c .loop-i .i ≡ length xs = omega arith in
-    record { value = c .loop-i .inv .0 ∙ ap (number 256) (take-all (c .loop-i .i) xs (omega arith)); bound = subst (λ k. c .loop-i .n < 256 ^ k) e (c .loop-i .inv .1) }
+pub returns-else-part-eq2 : need.returns-else-part-eq2
+returns-else-part-eq2 c =
+    let four : length (c .args .part .now) ≡ 4 = ⊎-elim (λ h. absurd (c .if-part-eq2 .left (eqb-true (length (c .args .part .now)) 2 h))) (eqb-true (length (c .args .part .now)) 4) (or-cases (eqb (length (c .args .part .now)) 2) (eqb (length (c .args .part .now)) 4) (c .pre)) in
+    let v : c .pair-high .result * 65536 + c .pair .result ≡ number 256 (c .args .part .now) =
+        omega (arith, c .pair-high .ensures, c .pair .ensures, number-of-four (c .args .part .now) four) in
+    record { value = v; bound = below (c .args .part .now) _ (c .typed .part) v }

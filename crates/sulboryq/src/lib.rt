@@ -1,7 +1,7 @@
-// The shipped bank's reading and writing for C: 0 for done, else the refusal's number.
-ghost use Rattle.forms.specs.Exports.{Read-for-C, Written-for-C};
-use crate::Shipped;
-use crate::ShippedBank;
+// The library for C: the shipped bank's reading and writing for C: 0 for done, else the refusal's number.
+ghost use Rattle.sulboryq.specs.Exports.{Read-for-C, Written-for-C};
+use forms::Shipped;
+use forms::ShippedBank;
 use bank::Bank;
 
 // Puts the part's number into `number`; a refusal leaves it as it was.
