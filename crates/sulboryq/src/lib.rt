@@ -1,8 +1,8 @@
 // The library for C: the shipped bank's reading and writing for C: 0 for done, else the refusal's number.
 ghost use Rattle.sulboryq.specs.Exports.{Read-for-C, Written-for-C};
+use bank::Bank;
 use forms::Shipped;
 use forms::ShippedBank;
-use bank::Bank;
 
 // Puts the part's number into `number`; a refusal leaves it as it was.
 #[unsafe(no_mangle)]

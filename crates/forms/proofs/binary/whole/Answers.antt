@@ -27,5 +27,5 @@ pub returns-else-part-eq2 : need.returns-else-part-eq2
 returns-else-part-eq2 c =
     let four : length (c .args .part .now) ≡ 4 = ⊎-elim (λ h. absurd (c .if-part-eq2 .left (eqb-true (length (c .args .part .now)) 2 h))) (eqb-true (length (c .args .part .now)) 4) (or-cases (eqb (length (c .args .part .now)) 2) (eqb (length (c .args .part .now)) 4) (c .pre)) in
     let v : c .pair-high .result * 65536 + c .pair .result ≡ number 256 (c .args .part .now) =
-        omega (arith, c .pair-high .ensures, c .pair .ensures, number-of-four (c .args .part .now) four) in
+    omega (arith, c .pair-high .ensures, c .pair .ensures, number-of-four (c .args .part .now) four) in
     record { value = v; bound = below (c .args .part .now) _ (c .typed .part) v }
