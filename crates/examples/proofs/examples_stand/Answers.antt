@@ -1,7 +1,9 @@
 use mathlib.Core.Path.{refl}
+use Rattle.std.specs.Written.{digits}
 use Rattle.examples.proofs.examples_stand.Needs as need
 
 pub returns : need.returns
+unfolding digits
 returns c = record {
   forms = record {
     plus-c = refl;
@@ -15,5 +17,14 @@ returns c = record {
     zoned-minus = refl;
     binary-highest = refl;
     binary-over = refl;
+  };
+  lines = record {
+    places = refl;
+    no-places = refl;
+    below-zero = refl;
+    no-value = refl;
+    account = refl;
+    damaged-account = refl;
+    short-ticket = refl;
   };
 }

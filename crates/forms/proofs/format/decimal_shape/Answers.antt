@@ -2,7 +2,7 @@ use mathlib.Core.Path.{refl}
 use native.Mathlib.Omega.{arith}
 use Rattle.std.proofs.shelf.Signed.{ints}
 use Rattle.encodings.proofs.Decimal.{decimal-limits}
-use Rattle.forms.proofs.form.decimal_shape.Needs as need
+use Rattle.forms.proofs.format.decimal_shape.Needs as need
 
 pub returns : need.returns
 returns c =
