@@ -4,6 +4,7 @@ ghost use mathlib.Core.Bool.{_&&_};
 ghost use lib.Signed.{leZ};
 ghost use Rattle.bank.specs.Model.{Forms, Lawful, beside};
 ghost use Rattle.bank.specs.Answers.{shape-of, read-by, Writes};
+ghost use Rattle.bank.specs.ReadsBack.{Reads-back};
 
 // Why a bank does not read or write; `as u8` gives the refusal's number.
 #[derive(Clone, Copy, PartialEq, Debug)]
@@ -87,4 +88,11 @@ pub impl<L: Bank, R: Bank> Bank for Beside<L, R> as BesideBank {
             None => self.right.write(letter, size, number, part),
         }
     }
+}
+
+// In every bank, a number that was written is read back as that number.
+pub fn written_reads_back() -> u8
+    ensures { λ _. ⌜ Reads-back ⌝ }
+{
+    0
 }
