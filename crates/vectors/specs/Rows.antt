@@ -10,9 +10,11 @@ use Rattle.std.specs.declared.option.Option.the-variants.{Some, None}
 use Rattle.std.specs.Of.Vec.{vec-items}
 use Rattle.std.specs.Options.{mapped}
 use Rattle.std.specs.Reads.{Numeral, value, afterPlus, afterSign, signedValue}
-use Rattle.vectors.specs.declared.row.Claim.{Claim}
-use Rattle.vectors.specs.declared.row.Claim.the-variants.{Both, Read, Write}
-use Rattle.vectors.specs.declared.row.Row.{Row}
+use Rattle.bank.specs.Model.{Forms}
+use Rattle.judge.specs.Claims.{Agrees}
+use Rattle.judge.specs.declared.Claim.{Claim}
+use Rattle.judge.specs.declared.Claim.the-variants.{Both, Read, Write}
+use Rattle.judge.specs.declared.Row.{Row}
 use Rattle.vectors.specs.Hex.{HexOf}
 
 abbrev pub SizeOf : List ℕ → ℕ → Type 0
@@ -48,3 +50,7 @@ pub record RowOf (line : List ℕ) (row : Row) : Type 0 where
   pub some-number : Option ℤ
   pub number-is : NumberOf number some-number
   pub claim-is : ClaimOf direction some-bytes some-number (row .claim)
+
+-- the line is a row that agrees with the form that the bank has for its letter and size
+abbrev pub Upheld : Forms → List ℕ → Type 0
+Upheld forms line = (row : Row) × RowOf line row × Agrees (forms (row .letter) (row .size)) (row .claim)

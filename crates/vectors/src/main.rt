@@ -1,6 +1,5 @@
 // Holds the shipped bank to examples: those that IBM's manuals print, and a few worked by hand.
 mod hex;
-mod judge;
 mod row;
 
 use forms::Shipped;
@@ -16,7 +15,7 @@ fn account(rt: &LibcRuntime, text: &str) -> io::Result<()> {
         if line.starts_with('#') {
             continue;
         }
-        if judge::line_agrees(&Shipped, rt.alloc(), line)? {
+        if row::agrees(&Shipped, rt.alloc(), line)? {
             agree += 1;
         } else {
             differ += 1;

@@ -1,30 +1,18 @@
 // An example as a line of the table has it.
 ghost use mathlib.Core.Path.{_≡_};
+ghost use mathlib.Core.Bool.{true};
 ghost use mathlib.Core.List.{_∷_, _++_};
 ghost use lib.Utf8.{encode};
 ghost use Rattle.std.specs.Of.Vec.{vec-items};
 ghost use Rattle.std.specs.Options.{mapped};
 ghost use Rattle.std.specs.Vec.{made};
-ghost use Rattle.vectors.specs.Rows.{SizeOf, BytesOf, NumberOf, ClaimOf, RowOf};
+ghost use Rattle.vectors.specs.Rows.{SizeOf, BytesOf, NumberOf, ClaimOf, RowOf, Upheld};
 use crate::hex;
+use bank::Bank;
+use judge::Claim;
+use judge::Row;
 use std::alloc::AllocError;
 use std::alloc::Global;
-
-// What an example says. A reading with no number: the bytes have no value.
-// A writing with no bytes: the number is out of range.
-#[derive(Drop)]
-pub enum Claim {
-    Both(Vec<u8>, i64),
-    Read(Vec<u8>, Option<i64>),
-    Write(Option<Vec<u8>>, i64),
-}
-
-#[derive(Drop)]
-pub struct Row {
-    pub letter: char,
-    pub size: u8,
-    pub claim: Claim,
-}
 
 #[derive(Drop)]
 pub enum Fault {
@@ -111,4 +99,15 @@ pub fn parse(heap: Global, line: &str) -> Result<Row, Fault>
         size: size_of(size)?,
         claim,
     })
+}
+
+// The line is a row that the bank agrees with; one that cannot be parsed is not.
+pub fn agrees<B: Bank>(bank: &B, heap: Global, line: &str) -> Result<bool, AllocError>
+    ensures { λ r. ⌜ made r (λ b. b ≡ true → Upheld (B·Bank .forms (now (bank .entry))) (now (line .entry))) ⌝ }
+{
+    match parse(heap, line) {
+        Ok(row) => Ok(judge::agrees(bank, &row)),
+        Err(Fault::Malformed) => Ok(false),
+        Err(Fault::NoMemory) => Err(AllocError),
+    }
 }

@@ -1,8 +1,8 @@
 use borrow.Author.Needs.{needs}
 use mir.Facts.{toZ-ofZ}
 use Rattle.std.proofs.shelf.Equals.{matches-decides}
-use Rattle.vectors.proofs.Written.{image-decides}
-use Rattle.vectors.proofs.judge.writes_as.Needs as need
+use Rattle.judge.proofs.Written.{image-decides}
+use Rattle.judge.proofs.writes_as.Needs as need
 
 pub returns-in-Ok : need.returns-in-Ok
 returns-in-Ok g c =

@@ -1,17 +1,24 @@
-// Whether a bank agrees with an example.
-ghost use mathlib.Core.Path.{_≡_};
-ghost use mathlib.Core.Bool.{true};
+// Examples of number forms, and whether a bank agrees with one.
 ghost use Rattle.std.specs.Orderings.{Decides};
-ghost use Rattle.std.specs.Vec.{made};
-ghost use Rattle.vectors.specs.Examples.{ReadsAs, WritesAs, Refuses, Agrees, Upheld};
-use crate::row;
-use crate::row::Claim;
-use crate::row::Fault;
-use crate::row::Row;
+ghost use Rattle.judge.specs.Claims.{ReadsAs, WritesAs, Refuses, Agrees};
 use bank::Bank;
 use bank::BankRefusal;
-use std::alloc::AllocError;
-use std::alloc::Global;
+
+// What an example says. A reading with no number: the bytes have no value.
+// A writing with no bytes: the number is out of range.
+#[derive(Drop)]
+pub enum Claim {
+    Both(Vec<u8>, i64),
+    Read(Vec<u8>, Option<i64>),
+    Write(Option<Vec<u8>>, i64),
+}
+
+#[derive(Drop)]
+pub struct Row {
+    pub letter: char,
+    pub size: u8,
+    pub claim: Claim,
+}
 
 // No form is wider.
 const WIDEST: usize = 16;
@@ -80,16 +87,5 @@ pub fn agrees<B: Bank>(bank: &B, row: &Row) -> bool
         Claim::Read(bytes, number) => reads_as(bank, letter, size, bytes, *number),
         Claim::Write(Some(bytes), number) => writes_as(bank, letter, size, *number, bytes),
         Claim::Write(None, number) => refuses(bank, letter, size, *number),
-    }
-}
-
-// The line is a row that the bank agrees with; one that cannot be parsed is not.
-pub fn line_agrees<B: Bank>(bank: &B, heap: Global, line: &str) -> Result<bool, AllocError>
-    ensures { λ r. ⌜ made r (λ b. b ≡ true → Upheld (B·Bank .forms (now (bank .entry))) (now (line .entry))) ⌝ }
-{
-    match row::parse(heap, line) {
-        Ok(row) => Ok(agrees(bank, &row)),
-        Err(Fault::Malformed) => Ok(false),
-        Err(Fault::NoMemory) => Err(AllocError),
     }
 }
