@@ -24,13 +24,7 @@ pub struct Row {
 const WIDEST: usize = 16;
 
 // The bytes read as the number or, where there is none, have no value.
-pub fn reads_as<B: Bank>(
-    bank: &B,
-    letter: char,
-    size: u8,
-    bytes: &[u8],
-    number: Option<i64>,
-) -> bool
+fn reads_as<B: Bank>(bank: &B, letter: char, size: u8, bytes: &[u8], number: Option<i64>) -> bool
     ensures { λ r. ⌜ Decides r (ReadsAs (B·Bank .forms (now (bank .entry)) letter size) (now (bytes .entry)) number) ⌝ }
 {
     match bank.read(letter, size, bytes) {
@@ -44,7 +38,7 @@ pub fn reads_as<B: Bank>(
 }
 
 // The number is written as the image.
-pub fn writes_as<B: Bank>(bank: &B, letter: char, size: u8, number: i64, image: &[u8]) -> bool
+fn writes_as<B: Bank>(bank: &B, letter: char, size: u8, number: i64, image: &[u8]) -> bool
     ensures { λ r. ⌜ Decides r (WritesAs (B·Bank .forms (now (bank .entry)) letter size) number (now (image .entry))) ⌝ }
 {
     if image.len() > WIDEST {
@@ -59,7 +53,7 @@ pub fn writes_as<B: Bank>(bank: &B, letter: char, size: u8, number: i64, image: 
 }
 
 // The bank has the form, and the number is outside its range.
-pub fn refuses<B: Bank>(bank: &B, letter: char, size: u8, number: i64) -> bool
+fn refuses<B: Bank>(bank: &B, letter: char, size: u8, number: i64) -> bool
     ensures { λ r. ⌜ Decides r (Refuses (B·Bank .forms (now (bank .entry)) letter size) number) ⌝ }
 {
     let Some(shape) = bank.shape(letter, size) else {

@@ -1,4 +1,4 @@
-// The library for C: the shipped bank's reading and writing for C: 0 for done, else the refusal's number.
+// The library for C: the shipped bank's reading and writing, answering 0 for done, else the refusal's number.
 ghost use Rattle.sulboryq.specs.Exports.{Read-for-C, Written-for-C};
 use bank::Bank;
 use forms::Shipped;
