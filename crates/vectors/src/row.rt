@@ -93,10 +93,13 @@ pub fn parse(heap: Global, line: &str) -> Result<Row, Fault>
     let (bytes, rest) = cut(rest)?;
     let (number, rest) = cut(rest)?;
     let (direction, _) = cut(rest)?;
-    let claim = claim_of(direction, bytes_of(heap, bytes)?, number_of(number)?)?;
+    let letter = letter_of(letter)?;
+    let size = size_of(size)?;
+    let number = number_of(number)?;
+    let claim = claim_of(direction, bytes_of(heap, bytes)?, number)?;
     Ok(Row {
-        letter: letter_of(letter)?,
-        size: size_of(size)?,
+        letter,
+        size,
         claim,
     })
 }
