@@ -1,7 +1,6 @@
 -- A number that was written is read back.
 use mathlib.Core.Path.{_≡_, refl}
 use mathlib.Core.Bool.{Bool, true, false, cond, _&&_}
-use mathlib.Core.List.{List}
 use Prim.Native.Nat.{ℕ}
 use native.Mathlib.Omega.{arith}
 use borrow.Author.Tests.{eq-eqb}
@@ -9,15 +8,12 @@ use lib.Dec.{eqb}
 use lib.IntN.{ℤ}
 use lib.Signed.{leZ, leZ-yes}
 use lib.ListN.{length}
-use Rattle.std.specs.declared.option.Option.{Option}
 use Rattle.std.specs.declared.option.Option.the-variants.{Some, None}
-use Rattle.std.specs.declared.result.Result.{Result}
 use Rattle.std.specs.declared.result.Result.the-variants.{Ok, Err}
 use Rattle.std.proofs.shelf.Tests.{and-parts}
 use Rattle.bank.specs.Model.{Form, Within, LawfulForm}
 use Rattle.bank.specs.Answers.{read-by}
 use Rattle.bank.specs.ReadsBack.{Reads-back}
-use Rattle.bank.specs.declared.BankRefusal.{BankRefusal}
 use Rattle.bank.specs.declared.BankRefusal.the-variants.{OutOfRange, WrongWidth}
 
 within-from-test : (f : Form) (n : ℤ) → (leZ (f .low) n && leZ n (f .high)) ≡ true → Within f n

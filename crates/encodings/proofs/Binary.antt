@@ -1,5 +1,5 @@
 -- What the binary forms owe, at 2 and at 4 bytes.
-use mathlib.Core.Path.{_≡_, refl, sym, ap, _∙_}
+use mathlib.Core.Path.{_≡_, refl, ap, _∙_}
 use mathlib.Core.Bool.{Bool, true, false, cond}
 use mathlib.Core.List.{List, [], _∷_}
 use Prim.Native.Nat.{ℕ, zero, suc, _+_, _-_, _*_, _/_, _%_, _^_, _<_, _≤_}
@@ -8,14 +8,12 @@ use native.Mathlib.Omega.{arith}
 use borrow.Author.Tests.{ltb-true, ltb-false, lt-ltb, le-ltb}
 use lib.Dec.{ltb}
 use lib.IntN.{ℤ, pos, negsuc, natAbs}
-use lib.Signed.{_≤ℤ_}
 use lib.ListN.{length, getD}
 use Rattle.std.specs.declared.option.Option.the-variants.{Some}
-use Rattle.std.specs.shelf.Digits.{number, Under}
+use Rattle.std.specs.shelf.Digits.{number}
 use Rattle.std.proofs.shelf.Digits.{number-lt}
 use Rattle.std.proofs.shelf.Signed.{ints}
-use Rattle.bank.specs.Model.{Form, Within, LawfulForm, Bytes}
-use Rattle.encodings.specs.Digits.{digits}
+use Rattle.bank.specs.Model.{Within, LawfulForm, Bytes}
 use Rattle.encodings.specs.Binary.{signed, unsigned, complement, from-complement}
 use Rattle.encodings.proofs.Digits.{length-digits, under-digits, number-digits}
 

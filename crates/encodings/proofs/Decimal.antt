@@ -1,9 +1,9 @@
 -- Laws of digits before a sign, for both decimal forms.
-use mathlib.Core.Path.{_≡_, refl, sym, ap, _∙_}
+use mathlib.Core.Path.{_≡_, refl, _∙_}
 use mathlib.Core.Bool.{Bool, true, false, cond, _||_}
 use mathlib.Core.List.{List, [], _∷_, _++_}
-use Prim.Native.Nat.{ℕ, zero, suc, _+_, _-_, _*_, _/_, _%_, _^_, _<_, _≤_}
-use native.Mathlib.Nat.{mul-assoc, mul-comm, pow-suc, pow-zero, pow-le-pow-right, mul-one}
+use Prim.Native.Nat.{ℕ, zero, suc, _+_, _-_, _*_, _^_, _<_, _≤_}
+use native.Mathlib.Nat.{mul-assoc, mul-comm, pow-suc, pow-zero, pow-le-pow-right, mul-one, one-mul}
 use native.Mathlib.Omega.{arith}
 use borrow.Author.Tests.{leb-true}
 use lib.Dec.{leb, ltb, eqb}
@@ -13,12 +13,11 @@ use lib.ListN.{length, length-append}
 use Rattle.std.specs.declared.option.Option.{Option}
 use Rattle.std.specs.declared.option.Option.the-variants.{Some, None}
 use Rattle.std.specs.Options.{Cases}
-use Rattle.std.specs.shelf.Lists.{All}
 use Rattle.std.specs.shelf.Digits.{numberAfter, number, Under}
 use Rattle.std.proofs.shelf.Bits.{mul-le}
 use Rattle.std.proofs.shelf.Signed.{ints}
-use Rattle.encodings.specs.Digits.{digits}
-use Rattle.encodings.specs.Decimal.{with-sign, digits-then-sign, sign-of}
+use Rattle.bank.specs.Model.{Within, LawfulForm, Bytes}
+use Rattle.encodings.specs.Decimal.{with-sign, digits-then-sign, sign-of, decimal}
 
 -- ---- one digit more
 
@@ -88,3 +87,30 @@ size-in-range p (negsuc n) h a b = omega (arith, ints)
 
 pub decimal-limits : (size : ℕ) → 1 ≤ size → size ≤ 15 → (10 ≤ 10 ^ size) × (10 ^ size ≤ 10 ^ 15)
 decimal-limits size h k = (pow-le-pow-right {n = 10} (omega arith) {i = 1} {j = size} h, pow-le-pow-right {n = 10} (omega arith) k)
+
+-- what a decimal form owes: the range once, and the rest by what its strings and images are
+module _ (size width : ℕ) (value : List ℕ → Option ℤ) (image : ℤ → List ℕ) (some : 1 ≤ size) (few : size ≤ 15) where
+  within-size : (z : ℤ) → Within (decimal size width value image) z → natAbs z < 10 ^ size
+  within-size z w = let lim = decimal-limits size some few in size-in-range (10 ^ size) z (omega arith) (w .above) (w .below)
+
+  size-within : (z : ℤ) → natAbs z < (0 + 1) * 10 ^ size → Within (decimal size width value image) z
+  size-within z h =
+      let lim = decimal-limits size some few in
+      let r = in-range (10 ^ size) z (omega arith) (rw (one-mul (10 ^ size)) at h) in
+      record { above = r .0; below = r .1 }
+
+  pub decimal-lawful : 1 ≤ width → width ≤ 16 → ((bs : List ℕ) → length bs ≡ width → Cases (value bs) (Unit {0}) (λ z. natAbs z < (0 + 1) * 10 ^ size)) → ((z : ℤ) → length (image z) ≡ width) → ((z : ℤ) → Bytes (image z)) → ((z : ℤ) → natAbs z < 10 ^ size → value (image z) ≡ Some z) → LawfulForm (decimal size width value image)
+  decimal-lawful wide narrow held long bytes back =
+      let lim = decimal-limits size some few in
+      record {
+        some-bytes = wide;
+        few-bytes = narrow;
+        low-reach = omega (arith, ints);
+        high-reach = omega (arith, ints);
+        low-bound = omega (arith, ints);
+        high-bound = omega (arith, ints);
+        held = λ bs _ l. cases-weaker size-within (value bs) (held bs l);
+        long = λ z _. long z;
+        bytes = λ z _. bytes z;
+        back = λ z w. back z (within-size z w);
+      }

@@ -1,13 +1,11 @@
 -- Laws of a number's digits at a fixed count.
-use mathlib.Core.Path.{_≡_, refl, sym, ap, _∙_}
-use mathlib.Core.List.{List, [], _∷_}
+use mathlib.Core.Path.{_≡_, refl, ap}
 use Prim.Native.Nat.{ℕ, zero, suc, _+_, _-_, _*_, _/_, _%_, _^_, _<_, _≤_}
 use native.Mathlib.Nat.{add-mul, mul-assoc, mul-one, pow-zero, pow-succ', one-le-pow, mod-lt, mod-eq-of-lt, mod-one, pow-suc, pow-le-pow-right}
 use native.Mathlib.Omega.{arith}
 use native.Mathlib.Numerals.{add-one}
 use lib.Arith.{mod-mul, digits-lt}
 use lib.ListN.{length}
-use Rattle.std.specs.shelf.Lists.{All}
 use Rattle.std.specs.shelf.Digits.{numberAfter, number, Under}
 use Rattle.encodings.specs.Digits.{digits}
 

@@ -3,28 +3,26 @@ use mathlib.Core.Path.{_≡_, refl, sym, ap, _∙_}
 use mathlib.Core.Bool.{Bool, true, false, cond, _&&_}
 use mathlib.Core.List.{List, [], _∷_, _++_}
 use mathlib.Core.Logic.{_⊎_, inl, inr}
-use Prim.Native.Nat.{ℕ, zero, suc, _+_, _-_, _*_, _/_, _%_, _^_, _<_, _≤_}
-use native.Mathlib.Nat.{one-mul, div-one, div-eq-of-lt, div-div-eq-div-mul}
+use Prim.Native.Nat.{ℕ, suc, _+_, _-_, _*_, _/_, _%_, _^_, _<_, _≤_}
+use native.Mathlib.Nat.{div-one, div-eq-of-lt, div-div-eq-div-mul}
 use native.Mathlib.Omega.{arith}
 use borrow.Author.Tests.{eqb-true, eqb-false, ltb-false}
 use lib.Dec.{eqb, ltb}
-use lib.IntN.{ℤ, pos, negsuc, natAbs}
+use lib.IntN.{ℤ, natAbs}
 use lib.ListN.{length, getD, drop, length-append, length-drop}
 use Rattle.std.proofs.shelf.Lists.{at-drop-more, drop-all}
 use Rattle.std.specs.declared.option.Option.the-variants.{Some, None}
 use Rattle.std.specs.Options.{Cases}
-use Rattle.std.specs.shelf.Lists.{All}
 use Rattle.std.specs.shelf.Digits.{number, Under}
 use Rattle.std.proofs.shelf.Elements.{all-append, all-weaker}
-use Rattle.std.proofs.shelf.Signed.{ints}
 use Rattle.std.proofs.shelf.Tests.{and-parts}
 use Rattle.std.proofs.shelf.Ways.{tells}
-use Rattle.bank.specs.Model.{Form, Within, LawfulForm, Bytes}
+use Rattle.bank.specs.Model.{LawfulForm, Bytes}
 use Rattle.encodings.specs.Digits.{digits}
-use Rattle.encodings.specs.Decimal.{low, high, with-sign, digits-then-sign, sign-of, even, halves, joined, spare, packed, packed-image, packed-value, past-spare}
+use Rattle.encodings.specs.Decimal.{with-sign, digits-then-sign, sign-of, even, halves, joined, spare, packed, packed-image, packed-value, past-spare}
 use Rattle.encodings.proofs.Digits.{length-digits, under-digits, number-digits}
 use Rattle.encodings.proofs.Backward.{quotient-more}
-use Rattle.encodings.proofs.Decimal.{digit-on, digit-bad, digits-on, with-sign-of, sign-small, digits-size, in-range, size-in-range, cases-weaker, decimal-limits}
+use Rattle.encodings.proofs.Decimal.{digit-on, digit-bad, digits-on, with-sign-of, sign-small, digits-size, decimal-lawful}
 
 -- ---- reading: the spare half, a byte before the last, and the last
 
@@ -200,17 +198,6 @@ module _ (size : ℕ) (some : 1 ≤ size) (few : size ≤ 15) where
   pub packed-lawful : LawfulForm (packed size)
   unfolding written
   packed-lawful =
-      let lim = decimal-limits size some few in
-      let within : (z : ℤ) → Within (packed size) z → natAbs z < 10 ^ size = λ z w. size-in-range (10 ^ size) z (omega arith) (w .above) (w .below) in
-      record {
-        some-bytes = omega arith;
-        few-bytes = omega arith;
-        low-reach = omega (arith, ints);
-        high-reach = omega (arith, ints);
-        low-bound = omega (arith, ints);
-        high-bound = omega (arith, ints);
-        held = λ bs _ l. cases-weaker (λ z h. let r = in-range (10 ^ size) z (omega arith) (rw (one-mul (10 ^ size)) at h) in record { above = r .0; below = r .1 }) (packed-value size bs) (packed-size size bs l);
-        long = λ z w. length-joined (written z) (omega (arith, length-written z)) ∙ omega (arith, length-written z);
-        bytes = λ z w. are-bytes (written z) (under-written z);
-        back = λ z w. image-back z (within z w);
-      }
+      decimal-lawful size (size / 2 + 1) (packed-value size) (packed-image size) some few (omega arith) (omega arith) (packed-size size)
+      (λ z. length-joined (written z) (omega (arith, length-written z)) ∙ omega (arith, length-written z))
+      (λ z. are-bytes (written z) (under-written z)) image-back

@@ -10,7 +10,7 @@ use Rattle.std.specs.declared.option.Option.{Option}
 use Rattle.std.specs.declared.option.Option.the-variants.{Some, None}
 use Rattle.std.specs.Options.{Cases}
 use Rattle.std.proofs.shelf.Tests.{and-parts, or-cases}
-use Rattle.bank.specs.Model.{Form, Lawful, LawfulForm}
+use Rattle.bank.specs.Model.{Lawful, LawfulForm}
 use Rattle.encodings.specs.declared.Kind.{Kind}
 use Rattle.encodings.specs.declared.Kind.the-variants.{Zoned, Packed, Signed, Unsigned}
 use Rattle.encodings.specs.Shipped.{kind-of, has-size, form-of, at-size, shipped}

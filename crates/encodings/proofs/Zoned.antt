@@ -1,22 +1,18 @@
 -- Laws of the zoned form: a loop's step for reading and for writing, and what it owes as a form.
-use mathlib.Core.Path.{_≡_, refl, sym, ap, _∙_}
+use mathlib.Core.Path.{_≡_, refl, ap, _∙_}
 use mathlib.Core.List.{List, [], _∷_, _++_}
 use Prim.Native.Nat.{ℕ, zero, suc, _+_, _-_, _*_, _/_, _%_, _^_, _<_, _≤_}
-use native.Mathlib.Nat.{one-mul}
 use native.Mathlib.Omega.{arith}
-use lib.IntN.{ℤ, pos, negsuc, natAbs}
+use lib.IntN.{ℤ, natAbs}
 use lib.ListN.{length, getD, drop, length-drop}
 use Rattle.std.proofs.shelf.Lists.{at-drop-more, drop-all}
-use Rattle.std.proofs.shelf.Signed.{ints}
 use Rattle.std.specs.declared.option.Option.the-variants.{Some, None}
-use Rattle.std.specs.Options.{Cases}
-use Rattle.std.specs.shelf.Lists.{All}
-use Rattle.std.specs.shelf.Digits.{number, Under}
-use Rattle.bank.specs.Model.{Form, Within, LawfulForm, Bytes}
+use Rattle.std.specs.shelf.Digits.{Under}
+use Rattle.bank.specs.Model.{LawfulForm, Bytes}
 use Rattle.encodings.specs.Digits.{digits}
-use Rattle.encodings.specs.Decimal.{low, high, with-sign, digits-then-sign, sign-of, zoned, zoned-halves, zoned-bytes, zoned-image, zoned-value}
+use Rattle.encodings.specs.Decimal.{with-sign, digits-then-sign, sign-of, zoned, zoned-halves, zoned-bytes, zoned-image, zoned-value}
 use Rattle.encodings.proofs.Digits.{length-digits, under-digits, number-digits}
-use Rattle.encodings.proofs.Decimal.{digit-on, digit-bad, digits-on, with-sign-of, digits-size, in-range, size-in-range, cases-weaker, decimal-limits, sign-small}
+use Rattle.encodings.proofs.Decimal.{digit-on, digit-bad, digits-on, with-sign-of, digits-size, decimal-lawful, sign-small}
 
 halves-some : (b : ℕ) (bs : List ℕ) → 0 < length (zoned-halves (b ∷ bs))
 halves-some b [] = omega arith
@@ -101,17 +97,8 @@ module _ (size : ℕ) (some : 1 ≤ size) (few : size ≤ 15) where
 
   pub zoned-lawful : LawfulForm (zoned size)
   zoned-lawful =
-      let lim = decimal-limits size some few in
-      let within : (z : ℤ) → Within (zoned size) z → natAbs z < 10 ^ size = λ z w. size-in-range (10 ^ size) z (omega arith) (w .above) (w .below) in
-      record {
-        some-bytes = some;
-        few-bytes = omega arith;
-        low-reach = omega (arith, ints);
-        high-reach = omega (arith, ints);
-        low-bound = omega (arith, ints);
-        high-bound = omega (arith, ints);
-        held = λ bs _ l. cases-weaker (λ z h. let r = in-range (10 ^ size) z (omega arith) (rw (one-mul (10 ^ size)) at h) in record { above = r .0; below = r .1 }) (zoned-value bs) (digits-size size 0 (zoned-halves bs) (length-halves bs (omega arith) ∙ ap suc l));
-        long = λ z w. length-bytes (sign-of z) (digits 10 size (natAbs z)) ∙ length-digits 10 size (natAbs z);
-        bytes = λ z w. are-bytes (sign-of z) (digits 10 size (natAbs z)) (sign-small z) (under-digits 10 size (natAbs z) (omega arith));
-        back = λ z w. image-back z (within z w);
-      }
+      decimal-lawful size size zoned-value (zoned-image size) some few some (omega arith)
+      (λ bs l. digits-size size 0 (zoned-halves bs) (length-halves bs (omega arith) ∙ ap suc l))
+      (λ z. length-bytes (sign-of z) (digits 10 size (natAbs z)) ∙ length-digits 10 size (natAbs z))
+      (λ z. are-bytes (sign-of z) (digits 10 size (natAbs z)) (sign-small z) (under-digits 10 size (natAbs z) (omega arith)))
+      image-back

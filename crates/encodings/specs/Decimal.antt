@@ -31,6 +31,10 @@ digits-then-sign n (d ∷ h ∷ hs) = cond (leb d 9) (digits-then-sign (n * 10 +
 abbrev pub sign-of : ℤ → ℕ
 sign-of n = cond (nonNeg n) 12 13
 
+-- a form of so many digits: below 10^size in magnitude
+abbrev pub decimal : ℕ → ℕ → (List ℕ → Option ℤ) → (ℤ → List ℕ) → Form
+decimal size width value image = record { width = width; low = negsuc (10 ^ size - 2); high = pos (10 ^ size - 1); value = value; image = image }
+
 -- ---- packed: two digits a byte, the sign in the last half
 
 abbrev pub halves : List ℕ → List ℕ
@@ -63,7 +67,7 @@ abbrev pub packed-image : ℕ → ℤ → List ℕ
 packed-image size n = joined (spare size ++ digits 10 size (natAbs n) ++ sign-of n ∷ [])
 
 abbrev pub packed : ℕ → Form
-packed size = record { width = size / 2 + 1; low = negsuc (10 ^ size - 2); high = pos (10 ^ size - 1); value = packed-value size; image = packed-image size }
+packed size = decimal size (size / 2 + 1) (packed-value size) (packed-image size)
 
 -- ---- zoned: a digit in each low half, the sign in the last byte's high half
 
@@ -86,4 +90,4 @@ abbrev pub zoned-image : ℕ → ℤ → List ℕ
 zoned-image size n = zoned-bytes (sign-of n) (digits 10 size (natAbs n))
 
 abbrev pub zoned : ℕ → Form
-zoned size = record { width = size; low = negsuc (10 ^ size - 2); high = pos (10 ^ size - 1); value = zoned-value; image = zoned-image size }
+zoned size = decimal size size zoned-value (zoned-image size)
