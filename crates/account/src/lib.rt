@@ -1,4 +1,6 @@
 // The account of a ticket, the bytes of one weighing: what the program prints.
+#![tactic(auto)]
+
 ghost use Rattle.std.specs.Prelude.{◌≡◌, ◌+◌, ◌≤◌, length, IfOk, string_bytes};
 ghost use Rattle.account.specs.Account.{field_number, account_text};
 ghost use Rattle.account.specs.Weighing.{Tells};

@@ -1,4 +1,6 @@
 // Banks of number forms: what a bank answers, and two banks side by side.
+#![tactic(auto)]
+
 ghost use Rattle.std.specs.Prelude.{◌≡◌, ◌&&◌, int_le};
 ghost use Rattle.bank.specs.Model.{Forms, Lawful, beside};
 ghost use Rattle.bank.specs.Answers.{shape_of, read_by, Writes};

@@ -1,4 +1,6 @@
 // Worked examples, shown of the definitions themselves by computation.
+#![tactic(auto)]
+
 ghost use Rattle.examples.specs.Table.{Examples};
 
 // Every worked example stands.

@@ -1,4 +1,6 @@
 // The bytes of one output line of numbers.
+#![tactic(auto)]
+
 ghost use Rattle.std.specs.Prelude.{◌≡◌, ◌/◌, ◌^◌, IfOk, string_bytes};
 ghost use Rattle.encodings.specs.Digits.{digits};
 ghost use Rattle.figures.specs.Line.{digit_text, magnitude_text, number_text, value_text, row_text, line_with, line_bytes};

@@ -1,4 +1,6 @@
 // The bank that comes with the reckoner: zoned, packed and binary numbers.
+#![tactic(auto)]
+
 ghost use Rattle.encodings.specs.Shipped.{shipped};
 ghost use Rattle.encodings.proofs.Shipped.{shipped_lawful};
 

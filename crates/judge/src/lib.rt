@@ -1,4 +1,6 @@
 // Examples of number forms, and whether a bank agrees with one.
+#![tactic(auto)]
+
 ghost use Rattle.std.specs.Prelude.{Decides};
 ghost use Rattle.judge.specs.Claims.{ReadsAs, WritesAs, Refuses, Agrees};
 

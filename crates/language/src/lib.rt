@@ -1,5 +1,7 @@
 // The sheet language: the types that its meaning, its steps and its readers share.
 // A sheet is a depot's settlement text; a ticket is the bytes of one weighing, worked by a sheet.
+#![tactic(auto)]
+
 ghost use Rattle.std.specs.Prelude.{◌≡◌};
 ghost use Rattle.bank.specs.Model.{Forms};
 ghost use Rattle.language.specs.Numbers.{check_number, fault_number};

@@ -1,4 +1,6 @@
 // The six calls, their answers, and the ledger that says what every list of calls answers.
+#![tactic(auto)]
+
 ghost use Rattle.std.specs.Prelude.{◌≡◌, ℕ, List};
 ghost use Rattle.bank.specs.Model.{Forms};
 ghost use Rattle.ledger.specs.Standing.{StandsAlways, BearAlways};

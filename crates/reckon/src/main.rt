@@ -1,4 +1,6 @@
 // Prints the account of the ticket in the file `ticket.bin`; one that cannot be read counts as empty.
+#![tactic(auto)]
+
 use account::account;
 use bank::Bank;
 use forms::Shipped;

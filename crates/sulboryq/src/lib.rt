@@ -1,4 +1,6 @@
 // The library for C: the shipped bank's reading and writing, answering 0 for done, else the refusal's number.
+#![tactic(auto)]
+
 ghost use Rattle.sulboryq.specs.Exports.{ReadForC, WrittenForC};
 
 use bank::Bank;

@@ -1,4 +1,6 @@
 // Holds the shipped bank to examples: those that IBM's manuals print, and a few worked by hand.
+#![tactic(auto)]
+
 mod hex;
 mod row;
 
