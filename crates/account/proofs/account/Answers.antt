@@ -18,17 +18,17 @@ one_more forms ticket text fs i d more = rw (append_assoc, drop_more fs i d more
 pub loop-i-preserved : goal.loop-i-preserved
 loop-i-preserved g c =
     let forms = g.B.Bank.forms c.args.bank.now in
-    let line = c.as-str.ensures.value ∙ c.in-ok-line.ensures.bytes in
-    rw (c.in-ok-push-str.ensures.bytes, line, c.read-field-number.ensures) (one_more forms c.args.ticket.now (string_bytes c.loop-i.text) _ c.loop-i.i _ (omega arith) ∙ c.loop-i.invariant)
+    let line = c.as_str.ensures.value ∙ c.in_ok-line.ensures.bytes in
+    rw (c.in_ok-push_str.ensures.bytes, line, c.read_field-number.ensures) (one_more forms c.args.ticket.now (string_bytes c.loop-i.text) _ c.loop-i.i _ (omega arith) ∙ c.loop-i.invariant)
 
 pub returns-then-ticket-ne-LENGTH : goal.returns-then-ticket-ne-LENGTH
 returns-then-ticket-ne-LENGTH g c =
     let forms = g.B.Bank.forms c.args.bank.now in
     let ticket = c.args.ticket.now in
-    let bytes : IfOk c.from-str.result (λ s. string_bytes s ≡ account_text forms ticket) = search rules in
+    let bytes : IfOk c.from_str.result (λ s. string_bytes s ≡ account_text forms ticket) = search rules in
     record {
       bytes = bytes;
-      tells = IfOk-weaker c.from-str.result (λ s. string_bytes s ≡ account_text forms ticket) (λ s. Tells forms ticket (string_bytes s)) (λ s. tells (g.met.B.Bank.lawful c.args.bank.now) (string_bytes s)) bytes;
+      tells = IfOk-weaker c.from_str.result (λ s. string_bytes s ≡ account_text forms ticket) (λ s. Tells forms ticket (string_bytes s)) (λ s. tells (g.met.B.Bank.lawful c.args.bank.now) (string_bytes s)) bytes;
     }
 
 pub returns : goal.returns

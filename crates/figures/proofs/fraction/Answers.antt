@@ -12,4 +12,4 @@ pub loop-place-preserved : goal.loop-place-preserved
 loop-place-preserved c =
     let l = c.loop-place in
     let ascii = c.push.ensures.ascii (omega arith) in
-    rw (c.in-ok-push.ensures.bytes, ascii, c.whole.ensures) (one_more (string_bytes l.text) l.place c.args.n (omega arith) ∙ l.invariant)
+    rw (c.in_ok-push.ensures.bytes, ascii, c.whole.ensures) (one_more (string_bytes l.text) l.place c.args.n (omega arith) ∙ l.invariant)

@@ -7,7 +7,7 @@ use Rattle.figures.proofs.line.Goals as goal
 pub returns : goal.returns
 returns c =
     let a = c.args in
-    let value = c.in-ok-value.ensures in
+    let value = c.in_ok-value.ensures in
     let shows = subst (Shows a.places a.number) value.bytes value.reads in
     let bytes : IfOk c.joined.result (λ s. string_bytes s ≡ line_bytes a.field a.row a.number a.places) = search rules in
     record {

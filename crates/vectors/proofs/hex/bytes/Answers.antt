@@ -4,7 +4,7 @@ use Rattle.vectors.proofs.hex.bytes.Goals.{else-i-gt0-via-then-i-gt0+else-text-i
 
 pub loop-i-preserved : goal.loop-i-preserved
 loop-i-preserved c =
-    let pushed = c.in-ok-push.ensures.by_index in
+    let pushed = c.in_ok-push.ensures.by_index in
     let last = rw c.loop-i.invariant.0 at (pushed.1 0 refl) in (
       search rules,
       below_more _ _ (λ k h. c.loop-i.invariant.1 k h ∙ sym (ap Some (pushed.0 k 0 (search rules)))) (sym c.in-Some.ensures ∙ ap Some (sym last)),

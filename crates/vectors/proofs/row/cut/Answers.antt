@@ -8,4 +8,4 @@ at_tab line None e h = tt
 at_tab line (Some x) e h = (split_parts 9 line (Some x) h (lit< tt)).0
 
 pub returns : goal.returns
-returns c = rw c.ok-or.ensures.value (at_tab c.args.line.now c.split-once.result _ c.split-once.ensures.cases)
+returns c = rw c.ok_or.ensures.value (at_tab c.args.line.now c.split_once.result _ c.split_once.ensures.cases)
