@@ -1,7 +1,7 @@
 -- Laws of digits before a sign, for both decimal forms.
 use Rattle.std.proofs.Common.{◌≡◌, ℕ, zero, suc, ◌+◌, ◌-◌, ◌*◌, ◌^◌, ◌<◌, ◌≤◌, Bool, true, false, cond, ◌||◌, eqb, ltb, leb, List, [], ◌∷◌, ◌++◌, length, ℤ, pos, negsuc, neg_ℤ, nat_abs, ◌≤ℤ◌, IfSome, Some, None, Option, refl, ◌∙◌, mul_assoc, mul_comm, one-mul, pow-suc, mul-one, arith, length-append, leb-true}
 use native.Mathlib.Nat.{pow-zero, pow-le-pow_right}
-use Rattle.std.specs.Int.Digits.{number_from_digits_after, number_from_digits, AllBelowBase}
+use Rattle.std.specs.Int.Digits.{number_from_digits_after, AllBelowBase}
 use Rattle.std.proofs.lemmas.Nat.{mul-le}
 use Rattle.std.proofs.lemmas.Int.{ints}
 use Rattle.bank.specs.Model.{Within, LawfulForm, Bytes}

@@ -1,5 +1,5 @@
 -- Laws of a number's digits at a fixed count.
-use Rattle.std.proofs.Common.{◌≡◌, ℕ, zero, suc, ◌+◌, ◌-◌, ◌*◌, ◌/◌, ◌%◌, ◌^◌, ◌<◌, ◌≤◌, length, refl, ap, mod-lt, mod-eq_of_lt, mul_assoc, add-mul, pow-suc, mul-one, add-one, arith}
+use Rattle.std.proofs.Common.{◌≡◌, ℕ, zero, suc, ◌+◌, ◌*◌, ◌/◌, ◌%◌, ◌^◌, ◌<◌, ◌≤◌, length, refl, ap, mod-lt, mod-eq_of_lt, mul_assoc, add-mul, pow-suc, mul-one, add-one, arith}
 use native.Mathlib.Nat.{pow-zero, pow-succ', one-le-pow, mod-one, pow-le-pow_right}
 use lib.Arith.{mod-mul, digits_lt}
 use Rattle.std.specs.Int.Digits.{number_from_digits_after, number_from_digits, AllBelowBase}

@@ -1,4 +1,4 @@
-use Rattle.std.proofs.Common.{◌≡◌, suc, ◌+◌, ◌-◌, ◌*◌, ◌/◌, ◌%◌, ◌^◌, ◌<◌, ◌≤◌, [], ◌∷◌, length, sym, refl, ap, ◌∙◌, div-one, arith, length-set}
+use Rattle.std.proofs.Common.{◌≡◌, ◌-◌, ◌/◌, ◌%◌, ◌^◌, ◌∷◌, length, sym, ap, ◌∙◌, div-one, arith}
 use Rattle.std.proofs.lemmas.List.{drop_all}
 use Rattle.encodings.specs.Digits.{digits}
 use Rattle.encodings.proofs.Backward.{count_more, back_more, quotient_more}

@@ -1,4 +1,4 @@
-use Rattle.std.proofs.Common.{◌≡◌, ◌+◌, ◌-◌, ◌*◌, ◌%◌, ◌^◌, ◌<◌, ◌≤◌, length, get_or, drop, sym, ap, ◌∙◌, inl, inr, ⊎_elim, arith}
+use Rattle.std.proofs.Common.{◌≡◌, ◌-◌, length, drop, sym, ap, ◌∙◌, inl, inr, ⊎_elim, arith}
 use Rattle.encodings.specs.Decimal.{digits_then_sign, halves}
 use Rattle.encodings.proofs.Digits.{digits_within, digits_more}
 use Rattle.encodings.proofs.Packed.{packed_at_on, packed_at_bad, packed_at_last, packed_at_last_bad}

@@ -1,4 +1,4 @@
-use Rattle.std.proofs.Common.{◌≡◌, suc, ◌+◌, ◌-◌, ◌*◌, ◌/◌, ◌%◌, ◌^◌, ◌<◌, ◌≤◌, [], ◌∷◌, length, sym, refl, ap, ◌∙◌, arith, length-set}
+use Rattle.std.proofs.Common.{◌≡◌, ◌-◌, ◌*◌, ◌/◌, ◌^◌, ◌<◌, ◌∷◌, length, sym, ap, ◌∙◌, arith, length-set}
 use Rattle.encodings.proofs.Backward.{count_start, count_more, back_start, back_more}
 use Rattle.encodings.proofs.Packed.{tail, tail_one, tail_more, rest_byte, rest_more}
 use Rattle.forms.proofs.packed.put.Goals as goal

@@ -1,4 +1,4 @@
-use Rattle.std.proofs.Common.{◌≡◌, ◌+◌, ◌-◌, ◌*◌, ◌%◌, ◌^◌, ◌<◌, ◌≤◌, length, get_or, drop, sym, ap, ◌∙◌, arith}
+use Rattle.std.proofs.Common.{◌≡◌, ◌-◌, length, drop, sym, ap, ◌∙◌, arith}
 use Rattle.encodings.specs.Decimal.{digits_then_sign, zoned_halves}
 use Rattle.encodings.proofs.Digits.{digits_within, digits_more}
 use Rattle.encodings.proofs.Zoned.{zoned_at_on, zoned_at_bad, zoned_at_last}

@@ -1,4 +1,4 @@
-use Rattle.std.proofs.Common.{◌≡◌, length, ◌∙◌, w64}
+use Rattle.std.proofs.Common.{length, w64}
 use Rattle.std.proofs.lemmas.Int.{to_z-of_z}
 use Rattle.forms.proofs.Images.{packed_written}
 use Rattle.forms.proofs.format.Format.put.Goals as goal
