@@ -57,7 +57,7 @@ const LENGTH: usize = 16;
 // The number that the bank reads in the field's own bytes.
 fn read_field<B: Bank>(bank: &B, ticket: &[u8], field: &Field) -> Option<i64>
     requires { field.now.offset + field.now.width ≤ length ticket.now }
-    ensures { result ≡ field_number (forms bank.now) ticket.now field.now }
+    ensures { result ≡ field_number (B.forms bank.now) ticket.now field.now }
 {
     let part = &ticket[field.offset..field.offset + field.width];
     bank.read(field.letter, field.size, part).ok()
@@ -65,8 +65,8 @@ fn read_field<B: Bank>(bank: &B, ticket: &[u8], field: &Field) -> Option<i64>
 
 // A line for each field; a ticket of another length than the layout's is refused by the line `lay 22`.
 pub fn account<B: Bank>(heap: Global, bank: &B, ticket: &[u8]) -> Result<String, AllocError>
-    ensures bytes { IfOk result (λ s. string_bytes s ≡ account_text (forms bank.now) ticket.now) }
-    ensures tells { IfOk result (λ s. Tells (forms bank.now) ticket.now (string_bytes s)) }
+    ensures bytes { IfOk result (λ s. string_bytes s ≡ account_text (B.forms bank.now) ticket.now) }
+    ensures tells { IfOk result (λ s. Tells (B.forms bank.now) ticket.now (string_bytes s)) }
 {
     if ticket.len() != LENGTH {
         return String::from_str(heap, "lay 22\n");

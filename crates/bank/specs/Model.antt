@@ -1,6 +1,6 @@
 -- What a bank of number forms means, apart from any code: a form, what a form owes, and two banks side by side.
 use Rattle.std.specs.Prelude.{◌≡◌, ℕ, ◌-◌, ◌^◌, ◌<◌, ◌≤◌, List, length, ℤ, pos, negsuc, ◌≤ℤ◌, IfSome, Some, None, Option}
-use Rattle.std.specs.List.{AllByRecursion as All}
+use Rattle.std.specs.List.{AllByRecursion}
 
 -- a number form: its width in bytes, its range, the number that a string of that width stands for, if any, and a number's image, the string that is written for it
 pub record Form : Type 0 where
@@ -21,7 +21,7 @@ pub record Within (f : Form) (n : ℤ) : Type 0 where
 
 -- the list is a string of bytes
 abbrev pub Bytes : List ℕ → Type 0
-Bytes bs = All (λ b. b < 256) bs
+Bytes bs = AllByRecursion (λ b. b < 256) bs
 
 -- what a form owes: 1 to 16 bytes; a range from 0 or below to 9 or above, both ends under 10^15 in magnitude;
 -- what a string stands for is in that range; a number in it has an image of that width, which stands for that number

@@ -1,6 +1,6 @@
 -- How much room a sheet that is accepted wants, in every bank: for its steps, for their operands, and for a course.
 use Rattle.std.specs.Prelude.{◌≡◌, ℕ, ◌^◌, ◌<◌, ◌≤◌, List, length, Ok}
-use Rattle.std.specs.List.{AllByRecursion as All}
+use Rattle.std.specs.List.{AllByRecursion}
 use Rattle.bank.specs.Model.{Forms}
 use Rattle.language.specs.declared.Step.{Step}
 use Rattle.language.specs.declared.Step.TheVariants as S
@@ -31,7 +31,7 @@ SmallLine n l = (l.statement ≤ 255) × Small n l.step
 pub record Bounded (forms : Forms) (sheet : Sheet) : Type 0 where
   pub few_steps : length (steps sheet) ≤ 4096
   -- so statements, fields, zeros and places fit u8, steps to go to fit u16, and units fit u64, as `Line` and `Step` have them
-  pub small_lines : All (SmallLine (length (steps sheet))) (steps sheet)
+  pub small_lines : AllByRecursion (SmallLine (length (steps sheet))) (steps sheet)
   -- 64 rows at most, and in each of them every step once at most
   pub short_courses : (ticket : List ℕ) → length (course forms sheet ticket).entries ≤ 262144
 

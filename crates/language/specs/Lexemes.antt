@@ -1,6 +1,6 @@
 -- The tokens of a text are exactly its bytes that are not blank, in order: the text is blanks and lexemes, and each lexeme is one token.
 use Rattle.std.specs.Prelude.{◌≡◌, ℕ, ◌+◌, ◌<◌, Bool, true, false, cond, not, ◌⊎◌, List, [], ◌∷◌, ◌++◌, map, length, take, drop, filter}
-use Rattle.std.specs.List.{AllByRecursion as All}
+use Rattle.std.specs.List.{AllByRecursion}
 use Rattle.language.specs.Tokens.{Token, Placed, none, ends, in_run, blank, all, run_token, mark_token, tokens}
 
 -- the bytes of one token as they stand in a text, and their place
@@ -58,6 +58,6 @@ pub record TokensExactly : Type 0 where
   -- its tokens are those of the lexemes, in order, and then the end
   pub tokens_are : (text : List ℕ) (ls : List Lexeme) → Lexed 0 text ls → tokens text ≡ map token_at ls ++ end_at (length text) ∷ []
   -- each lexeme stands in the text at its place
-  pub in_place : (text : List ℕ) (ls : List Lexeme) → Lexed 0 text ls → All (λ l. take (length l.bytes) (drop l.place text) ≡ l.bytes) ls
+  pub in_place : (text : List ℕ) (ls : List Lexeme) → Lexed 0 text ls → AllByRecursion (λ l. take (length l.bytes) (drop l.place text) ≡ l.bytes) ls
   -- together they are the bytes that are not blank
   pub all_bytes : (text : List ℕ) (ls : List Lexeme) → Lexed 0 text ls → joined ls ≡ filter (λ b. not (blank b)) text

@@ -1,6 +1,6 @@
 -- What a ticket keeps while it is worked: its length and its being bytes; how large the values are that wait; and what faults bear.
 use Rattle.std.specs.Prelude.{◌≡◌, ℕ, ◌+◌, ◌^◌, ◌<◌, ◌≤◌, true, List, length, ℤ, Ok, Err, unsigned_abs}
-use Rattle.std.specs.List.{AllByRecursion as All}
+use Rattle.std.specs.List.{AllByRecursion}
 use Rattle.bank.specs.Model.{Forms, Lawful, Bytes}
 use Rattle.bank.specs.declared.BankRefusal.TheVariants as B
 use Rattle.language.specs.declared.Fault.{Fault}
@@ -31,7 +31,7 @@ CourseKeeps forms = (sheet : Sheet) → admitted forms sheet ≡ true
 
 -- every value is below 10^18 in magnitude
 abbrev pub ShortValues : List ℤ → Type 0
-ShortValues stack = All (λ x. unsigned_abs x < 10 ^ 18) stack
+ShortValues stack = AllByRecursion (λ x. unsigned_abs x < 10 ^ 18) stack
 
 -- a run over a sheet's steps, wherever it stands and where it ends well, has a ticket of the same length;
 -- and by a sheet accepted from a text no value that waits is too long, on a ticket of bytes

@@ -1,6 +1,6 @@
 -- Every sheet that is accepted from a text is bounded.
 use Rattle.std.proofs.Common.{◌≤◌, [], ◌∷◌, length, subst, arith}
-use Rattle.std.specs.List.{AllByRecursion as All}
+use Rattle.std.specs.List.{AllByRecursion}
 use Rattle.language.specs.Tokens.{ends}
 use Rattle.language.specs.Syntax.{printed}
 use Rattle.language.specs.Steps.{steps}
@@ -17,7 +17,7 @@ bounds forms text sheet h =
     let (writes, admitted) = sound forms text sheet h in
     let a = admits forms sheet admitted in
     let few : length (steps sheet) ≤ 4096 = few_steps text sheet writes in
-    let numbers = (parted SmallToken (printed sheet) (ends ∷ []) (subst (All SmallToken) writes.same_tokens (tokens_small text))).0 in
+    let numbers = (parted SmallToken (printed sheet) (ends ∷ []) (subst (AllByRecursion SmallToken) writes.same_tokens (tokens_small text))).0 in
     record {
       few_steps = few;
       small_lines = steps_small forms sheet a numbers;

@@ -1,7 +1,7 @@
 -- The numbers of a text are below 10^15, with at most 6 places.
 use Rattle.std.proofs.Common.{◌≡◌, ℕ, suc, ◌+◌, ◌-◌, ◌*◌, ◌^◌, ◌<◌, ◌≤◌, Bool, true, false, cond, leb, List, [], ◌∷◌, ◌++◌, map, length, refl, add-zero, add-suc, suc-add, pow-suc, arith}
 use native.Mathlib.Nat.{pow-le-pow_right}
-use Rattle.std.specs.List.{AllByRecursion as All}
+use Rattle.std.specs.List.{AllByRecursion}
 use Rattle.std.proofs.lemmas.Bool.{and_parts, leb-true, cond_both}
 use Rattle.language.specs.Tokens.{Token, word, number, symbol, none, ends, digit, all, is_word, is_number, before_point, after_point, decimal, number_of, run_token, mark_token, mark, in_run, tokens}
 use Rattle.language.specs.Lexemes.{Lexeme, token_of, token_at, end_at}
@@ -46,9 +46,9 @@ token_small : (bytes : List ℕ) → SmallToken (token_of bytes)
 token_small [] = tt
 token_small (b ∷ bs) = cond_both (in_run b) (run_token (b ∷ bs)) (mark_token b) SmallToken (λ _. run_small (b ∷ bs)) (λ _. cond_both (mark b) (symbol b) none SmallToken (λ _. tt) (λ _. tt))
 
-lexemes_small : (ls : List Lexeme) (n : ℕ) → All SmallToken (kinds (map token_at ls ++ end_at n ∷ []))
+lexemes_small : (ls : List Lexeme) (n : ℕ) → AllByRecursion SmallToken (kinds (map token_at ls ++ end_at n ∷ []))
 lexemes_small [] n = (tt, tt)
 lexemes_small (l ∷ ls) n = (token_small l.bytes, lexemes_small ls n)
 
-pub tokens_small : (text : List ℕ) → All SmallToken (kinds (tokens text))
+pub tokens_small : (text : List ℕ) → AllByRecursion SmallToken (kinds (tokens text))
 tokens_small text = rw (tokens_exactly.tokens_are text (lexed text).0 (lexed text).1) (lexemes_small (lexed text).0 (length text))

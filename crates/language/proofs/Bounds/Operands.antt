@@ -1,6 +1,6 @@
 -- The operands of a sheet's steps are small.
 use Rattle.std.proofs.Common.{◌≡◌, ℕ, zero, suc, ◌+◌, ◌<◌, ◌≤◌, Bool, true, false, ◌&&◌, List, [], ◌∷◌, ◌++◌, length, get_or, arith, length-append}
-use Rattle.std.specs.List.{AllByRecursion as All}
+use Rattle.std.specs.List.{AllByRecursion}
 use Rattle.std.proofs.ByRecursion.{All-append, All-push}
 use Rattle.std.proofs.lemmas.Bool.{and_parts, leb-true, ltb-true}
 use Rattle.bank.specs.Model.{Forms}
@@ -16,13 +16,13 @@ use Rattle.language.specs.Steps as P
 use Rattle.language.proofs.Acceptance.Admits.{Admits}
 use Rattle.language.proofs.Bounds.Numbers.{SmallToken}
 
-pub parted : {X : Type 0} (P : X → Type 0) (xs ys : List X) → All P (xs ++ ys) → All P xs × All P ys
+pub parted : {X : Type 0} (P : X → Type 0) (xs ys : List X) → AllByRecursion P (xs ++ ys) → AllByRecursion P xs × AllByRecursion P ys
 parted P [] ys h = (tt, h)
 parted P (x ∷ xs) ys h = let (here, there) = parted P xs ys h.1 in ((h.0, here), there)
 
 -- the sides of a condition and its then part
-three_parts : (a b c : List Token) (x y : Token) (rest : List Token) → All SmallToken (a ++ x ∷ b ++ y ∷ c ++ rest)
-    → All SmallToken a × All SmallToken b × All SmallToken c
+three_parts : (a b c : List Token) (x y : Token) (rest : List Token) → AllByRecursion SmallToken (a ++ x ∷ b ++ y ∷ c ++ rest)
+    → AllByRecursion SmallToken a × AllByRecursion SmallToken b × AllByRecursion SmallToken c
 three_parts a b c x y rest h =
     let (test, cs) = parted SmallToken (a ++ x ∷ b) (y ∷ c) (parted SmallToken (a ++ x ∷ b ++ y ∷ c) rest h).0 in
     let (us, bs) = parted SmallToken a (x ∷ b) test in
@@ -47,17 +47,17 @@ module _ (sheet : Sheet) (few : length (fields sheet) ≤ 64) (fine : (f : ℕ) 
 
   -- at most 12 places: products by what is asked of them, and the rest by their parts
   mutual
-    expr_fine : (e : Expr) (i : Bool) → expr_good sheet i e ≡ true → All SmallToken (expr_tokens (fields sheet) e) → expr_places sheet e ≤ 12
+    expr_fine : (e : Expr) (i : Bool) → expr_good sheet i e ≡ true → AllByRecursion SmallToken (expr_tokens (fields sheet) e) → expr_places sheet e ≤ 12
     expr_fine (only t) i good ts = term_fine t i good ts
     expr_fine (sum e g t) i good ts =
         let (es, us) = parted SmallToken (expr_tokens (fields sheet) e) _ ts in
         omega (arith, expr_fine e i (and_parts _ _ good).0 es, term_fine t i (and_parts _ _ good).1 us.1)
 
-    term_fine : (t : Term) (i : Bool) → term_good sheet i t ≡ true → All SmallToken (term_tokens (fields sheet) t) → term_places sheet t ≤ 12
+    term_fine : (t : Term) (i : Bool) → term_good sheet i t ≡ true → AllByRecursion SmallToken (term_tokens (fields sheet) t) → term_places sheet t ≤ 12
     term_fine (just f) i good ts = factor_fine f i good ts
     term_fine (times t f) i good ts = leb-true _ _ (and_parts _ _ good).1
 
-    factor_fine : (f : Factor) (i : Bool) → factor_good sheet i f ≡ true → All SmallToken (factor_tokens (fields sheet) f) → factor_places sheet f ≤ 12
+    factor_fine : (f : Factor) (i : Bool) → factor_good sheet i f ≡ true → AllByRecursion SmallToken (factor_tokens (fields sheet) f) → factor_places sheet f ≤ 12
     factor_fine (read f) i good ts = omega (arith, fine f)
     factor_fine (constant units places) i good ts = omega (arith, ts.0.1)
     factor_fine (group e) i good ts = expr_fine e i good (parted SmallToken (expr_tokens (fields sheet) e) _ ts.1).0
@@ -67,7 +67,7 @@ module _ (sheet : Sheet) (few : length (fields sheet) ≤ 64) (fine : (f : ℕ) 
     mutual
       unfolding P.expr P.term P.factor
 
-      expr_small : (e : Expr) (i : Bool) → expr_good sheet i e ≡ true → All SmallToken (expr_tokens (fields sheet) e) → All (SmallLine n) (P.expr sheet k e)
+      expr_small : (e : Expr) (i : Bool) → expr_good sheet i e ≡ true → AllByRecursion SmallToken (expr_tokens (fields sheet) e) → AllByRecursion (SmallLine n) (P.expr sheet k e)
       expr_small (only t) i good ts = term_small t i good ts
       expr_small (sum e g t) i good ts =
           let (es, us) = parted SmallToken (expr_tokens (fields sheet) e) _ ts in
@@ -75,7 +75,7 @@ module _ (sheet : Sheet) (few : length (fields sheet) ≤ 64) (fine : (f : ℕ) 
           All-push (SmallLine n) _ _ (All-append (SmallLine n) _ _ (expr_small e i left es) (term_small t i right us.1))
           (numbered, sum_small n g _ _ (zeros_small _ _ (expr_fine e i left es) (term_fine t i right us.1)))
 
-      term_small : (t : Term) (i : Bool) → term_good sheet i t ≡ true → All SmallToken (term_tokens (fields sheet) t) → All (SmallLine n) (P.term sheet k t)
+      term_small : (t : Term) (i : Bool) → term_good sheet i t ≡ true → AllByRecursion SmallToken (term_tokens (fields sheet) t) → AllByRecursion (SmallLine n) (P.term sheet k t)
       term_small (just f) i good ts = factor_small f i good ts
       term_small (times t f) i good ts =
           let (us, fs) = parted SmallToken (term_tokens (fields sheet) t) _ ts in
@@ -83,14 +83,14 @@ module _ (sheet : Sheet) (few : length (fields sheet) ≤ 64) (fine : (f : ℕ) 
           let (left, right) = and_parts (term_good sheet i t) (factor_good sheet i f) both in
           All-push (SmallLine n) _ _ (All-append (SmallLine n) _ _ (term_small t i left us) (factor_small f i right fs.1)) (numbered, tt)
 
-      factor_small : (f : Factor) (i : Bool) → factor_good sheet i f ≡ true → All SmallToken (factor_tokens (fields sheet) f) → All (SmallLine n) (P.factor sheet k f)
+      factor_small : (f : Factor) (i : Bool) → factor_good sheet i f ≡ true → AllByRecursion SmallToken (factor_tokens (fields sheet) f) → AllByRecursion (SmallLine n) (P.factor sheet k f)
       factor_small (read f) i good ts = ((numbered, named_small i f good), tt)
       factor_small (constant units places) i good ts = ((numbered, ts.0.0), tt)
       factor_small (group e) i good ts = expr_small e i good (parted SmallToken (expr_tokens (fields sheet) e) _ ts.1).0
       factor_small (minus f) i good ts = All-push (SmallLine n) _ _ (factor_small f i good ts.1) (numbered, tt)
 
     condition_small : (l : Expr) (o : Relation) (r : Expr) (to : ℕ) (i : Bool) → side_good sheet i l ≡ true → side_good sheet i r ≡ true
-        → All SmallToken (expr_tokens (fields sheet) l) → All SmallToken (expr_tokens (fields sheet) r) → to < n → All (SmallLine n) (P.condition sheet k l o r to)
+        → AllByRecursion SmallToken (expr_tokens (fields sheet) l) → AllByRecursion SmallToken (expr_tokens (fields sheet) r) → to < n → AllByRecursion (SmallLine n) (P.condition sheet k l o r to)
     unfolding P.condition
     condition_small l o r to i good_l good_r ls rs ahead =
         let left = (and_parts (expr_good sheet i l) _ good_l).0 in
@@ -103,8 +103,8 @@ module _ (sheet : Sheet) (few : length (fields sheet) ≤ 64) (fine : (f : ℕ) 
     mutual
       unfolding P.stmt P.block P.condition
 
-      stmt_small : (s : Stmt) (i : Bool) (at k : ℕ) → stmt_good sheet i s ≡ true → All SmallToken (stmt_tokens (fields sheet) s)
-          → k + stmt_count s ≤ 256 → at + length (P.stmt sheet at k s) < n → All (SmallLine n) (P.stmt sheet at k s)
+      stmt_small : (s : Stmt) (i : Bool) (at k : ℕ) → stmt_good sheet i s ≡ true → AllByRecursion SmallToken (stmt_tokens (fields sheet) s)
+          → k + stmt_count s ≤ 256 → at + length (P.stmt sheet at k s) < n → AllByRecursion (SmallLine n) (P.stmt sheet at k s)
       stmt_small (assign f e r) i at k good ts numbered room =
           let here : k ≤ 255 = omega arith in
           let (named, side) = and_parts (in_scope sheet i f) (side_good sheet i e) good in
@@ -151,8 +151,8 @@ module _ (sheet : Sheet) (few : length (fields sheet) ≤ 64) (fine : (f : ℕ) 
                 (here, omega arith),
           )
 
-      block_small : (b : Block) (i : Bool) (at k : ℕ) → block_good sheet i b ≡ true → All SmallToken (block_tokens (fields sheet) b)
-          → k + block_count b ≤ 256 → at + length (P.block sheet at k b) < n → All (SmallLine n) (P.block sheet at k b)
+      block_small : (b : Block) (i : Bool) (at k : ℕ) → block_good sheet i b ≡ true → AllByRecursion SmallToken (block_tokens (fields sheet) b)
+          → k + block_count b ≤ 256 → at + length (P.block sheet at k b) < n → AllByRecursion (SmallLine n) (P.block sheet at k b)
       block_small empty i at k good ts numbered room = tt
       block_small (b then s) i at k good ts numbered room =
           let (us, vs) = parted SmallToken (block_tokens (fields sheet) b) _ ts in
@@ -161,8 +161,8 @@ module _ (sheet : Sheet) (few : length (fields sheet) ≤ 64) (fine : (f : ℕ) 
           All-append (SmallLine n) _ _ (block_small b i at k (and_parts _ _ good).0 us (omega arith) (omega arith))
           (stmt_small s i (at + length part) (k + block_count b) (and_parts _ _ good).1 vs (omega arith) fits)
 
-pub steps_small : (forms : Forms) (sheet : Sheet) → Admits forms sheet → All SmallToken (printed sheet)
-    → All (SmallLine (length (P.steps sheet))) (P.steps sheet)
+pub steps_small : (forms : Forms) (sheet : Sheet) → Admits forms sheet → AllByRecursion SmallToken (printed sheet)
+    → AllByRecursion (SmallLine (length (P.steps sheet))) (P.steps sheet)
 unfolding P.steps
 steps_small forms sheet a ts =
     let body : List Token = block_tokens (fields sheet) sheet.body in

@@ -1,6 +1,6 @@
 -- The place of a refusal is that of a token.
 use Rattle.std.proofs.Common.{◌≡◌, ℕ, ◌+◌, ◌≤◌, Bool, true, false, List, [], ◌∷◌, map, length, Ok, Err, Result, ap, ◌∙◌, arith, length-append}
-use Rattle.std.specs.List.{AllByRecursion as All}
+use Rattle.std.specs.List.{AllByRecursion}
 use Rattle.std.proofs.ByRecursion.{All-append, All-map}
 use Rattle.std.proofs.lemmas.Bool.{false≢true}
 use Rattle.bank.specs.Model.{Forms}
@@ -24,12 +24,12 @@ module _ (forms : Forms) where
   ]
 
   -- what holds of the place of every token holds of a refusal's place
-  pub refused_at : (P : ℕ → Type 0) (ps : List Placed) (s : State) (r : TextRefusal) → closed (kinds ps) ≡ true → All (λ p. P p.place) ps → reading forms s ps ≡ Err r → P r.place
+  pub refused_at : (P : ℕ → Type 0) (ps : List Placed) (s : State) (r : TextRefusal) → closed (kinds ps) ≡ true → AllByRecursion (λ p. P p.place) ps → reading forms s ps ≡ Err r → P r.place
   refused_at P [] s r c h e = absurd (false≢true c)
   refused_at P (p ∷ ps) s r c (here, later) e = go p.token c e (refused_at P ps)
     where
       Later : Type 0
-      Later = (s : State) (r : TextRefusal) → closed (kinds ps) ≡ true → All (λ p. P p.place) ps → reading forms s ps ≡ Err r → P r.place
+      Later = (s : State) (r : TextRefusal) → closed (kinds ps) ≡ true → AllByRecursion (λ p. P p.place) ps → reading forms s ps ≡ Err r → P r.place
 
       by : (o : Outcome) → closed (kinds ps) ≡ true → answer_by s ps p.place false o ≡ Err r → Later → P r.place
       by (Err k) c e ih = let q : p.place ≡ r.place = cc in rw q at here
@@ -51,7 +51,7 @@ pub record Between (low high n : ℕ) : Type 0 where
   pub from : low ≤ n
   pub to : n ≤ high
 
-lexeme_places : (ls : List Lexeme) (at : ℕ) (text : List ℕ) (low high : ℕ) → low ≤ at → at + length text ≤ high → Lexed at text ls → All (λ l. Between low high l.place) ls
+lexeme_places : (ls : List Lexeme) (at : ℕ) (text : List ℕ) (low high : ℕ) → low ≤ at → at + length text ≤ high → Lexed at text ls → AllByRecursion (λ l. Between low high l.place) ls
 lexeme_places [] at text low high a b h = tt
 lexeme_places (l ∷ ls) at text low high a b (gap, rest, e, blanks, p, w, more) =
     let n : length text ≡ length gap + (length l.bytes + length rest) = ap length e ∙ simp length-append in (
@@ -59,7 +59,7 @@ lexeme_places (l ∷ ls) at text low high a b (gap, rest, e, blanks, p, w, more)
       lexeme_places ls (at + length gap + length l.bytes) rest low high (omega arith) (omega arith) more,
     )
 
-pub token_places : (ls : List Lexeme) (at : ℕ) (text : List ℕ) → Lexed at text ls → All (λ p. Between at (at + length text) p.place) (tokens_from at [] text)
+pub token_places : (ls : List Lexeme) (at : ℕ) (text : List ℕ) → Lexed at text ls → AllByRecursion (λ p. Between at (at + length text) p.place) (tokens_from at [] text)
 token_places ls at text h =
     let P : Placed → Type 0 = λ p. Between at (at + length text) p.place in
     rw (lexed_tokens ls at text h)

@@ -1,6 +1,6 @@
 -- What holds of a run wherever it stands: its ticket is as long as it was, and the values that wait are not too long.
 use Rattle.std.proofs.Common.{◌≡◌, ℕ, zero, suc, ◌+◌, cond, ltb, List, [], ◌∷◌, length, ℤ, Some, None, Ok, Err, Option, refl, arith}
-use Rattle.std.specs.List.{slice_get, AllByRecursion as All}
+use Rattle.std.specs.List.{slice_get, AllByRecursion}
 use Rattle.std.proofs.lemmas.Bool.{cond_both}
 use Rattle.bank.specs.Model.{Forms, Lawful, Bytes}
 use Rattle.language.specs.declared.Step.{Step}
@@ -23,7 +23,7 @@ always : {A : Type 0} (d : Action A) → Leaves d (λ a. Unit {0})
 always (yields figure a) = tt
 always (fails b) = tt
 
-all_nth : {X : Type 0} (P : X → Type 0) (xs : List X) (i : ℕ) (x : X) → slice_get xs i ≡ Some x → All P xs → P x
+all_nth : {X : Type 0} (P : X → Type 0) (xs : List X) (i : ℕ) (x : X) → slice_get xs i ≡ Some x → AllByRecursion P xs → P x
 all_nth P [] i x e h = let z : ◌≡◌ {A = ℕ} 0 1 = cc in absurd (omega arith)
 all_nth P (y ∷ ys) zero x e h = let same : y ≡ x = cc in rw same at h.0
 all_nth P (y ∷ ys) (suc i) x e h = all_nth P ys i x e h.1
@@ -31,7 +31,7 @@ all_nth P (y ∷ ys) (suc i) x e h = all_nth P ys i x e h.1
 module _ (forms : Forms) (lawful : Lawful forms) (sheet : Sheet) (lines : List Line) (ticket : List ℕ) where
   -- what the values rest on
   abbrev Given : Type 0
-  Given = Bytes ticket × All (SmallLine (length lines)) lines
+  Given = Bytes ticket × AllByRecursion (SmallLine (length lines)) lines
 
   abbrev Value : ℤ → Type 0
   Value x = Given → Short x
@@ -39,7 +39,7 @@ module _ (forms : Forms) (lawful : Lawful forms) (sheet : Sheet) (lines : List L
   -- the invariant, of a configuration, a state and a move
   pub record Holds (c : Config) : Type 0 where
     pub kept : Kept ticket c.ticket
-    pub values : All Value c.stack
+    pub values : AllByRecursion Value c.stack
 
   abbrev pub StateHolds : State → Type 0
   StateHolds (running c) = Holds c
@@ -59,25 +59,25 @@ module _ (forms : Forms) (lawful : Lawful forms) (sheet : Sheet) (lines : List L
   making_holds P at (fails b) leads h k = tt
 
   -- an action whose value joins those that wait
-  push_holds : (at : Site) (d : Action ℤ) (c : Config) (under : List ℤ) → Leaves d Value → Kept ticket c.ticket → All Value under
+  push_holds : (at : Site) (d : Action ℤ) (c : Config) (under : List ℤ) → Leaves d Value → Kept ticket c.ticket → AllByRecursion Value under
       → MoveHolds (making at d λ x. onward c (x ∷ under))
   push_holds at d c under h kept values = making_holds Value at d (λ x. onward c (x ∷ under)) h λ x v. record { kept = kept; values = (v, values) }
 
   short_value : (d : Action ℤ) → Leaves d Short → Leaves d Value
   short_value d h = later Short Given d λ g. h
 
-  one_holds : (stack : List ℤ) (f : ℤ → List ℤ → Move) → All Value stack
-      → ((x : ℤ) (under : List ℤ) → Value x → All Value under → MoveHolds (f x under)) → MoveHolds (with_one stack f)
+  one_holds : (stack : List ℤ) (f : ℤ → List ℤ → Move) → AllByRecursion Value stack
+      → ((x : ℤ) (under : List ℤ) → Value x → AllByRecursion Value under → MoveHolds (f x under)) → MoveHolds (with_one stack f)
   one_holds [] f v k = tt
   one_holds (x ∷ under) f v k = k x under v.0 v.1
 
-  two_holds : (stack : List ℤ) (f : ℤ → ℤ → List ℤ → Move) → All Value stack
-      → ((x y : ℤ) (under : List ℤ) → All Value under → MoveHolds (f x y under)) → MoveHolds (with_two stack f)
+  two_holds : (stack : List ℤ) (f : ℤ → ℤ → List ℤ → Move) → AllByRecursion Value stack
+      → ((x y : ℤ) (under : List ℤ) → AllByRecursion Value under → MoveHolds (f x y under)) → MoveHolds (with_two stack f)
   two_holds [] f v k = tt
   two_holds (y ∷ []) f v k = tt
   two_holds (y ∷ x ∷ under) f v k = k x y under v.1.1
 
-  act_holds : (here : Site) (s : Step) (c : Config) → (All (SmallLine (length lines)) lines → Small (length lines) s) → Holds c → MoveHolds (act forms sheet here s c)
+  act_holds : (here : Site) (s : Step) (c : Config) → (AllByRecursion (SmallLine (length lines)) lines → Small (length lines) s) → Holds c → MoveHolds (act forms sheet here s c)
   unfolding act making
   act_holds here (S.Constant units) c small h = record { kept = h.kept; values = ((λ g. omega (arith, small g.1)), h.values) }
   act_holds here (S.Field f) c small h =

@@ -1,7 +1,7 @@
 -- Every text is blanks and lexemes, and its tokens are those lexemes.
 use Rattle.std.proofs.Common.{◌≡◌, ℕ, ◌+◌, Bool, true, false, not, List, [], ◌∷◌, ◌++◌, map, length, take, drop, filter, sym, refl, ap, ◌∙◌, subst, ap₂, inl, inr, append_assoc, append-nil, zero-add, arith, length-append}
 use lib.Seq.{take-append_seam, drop-append_seam}
-use Rattle.std.specs.List.{AllByRecursion as All}
+use Rattle.std.specs.List.{AllByRecursion}
 use Rattle.std.proofs.lemmas.List.Elements.{filter-append}
 use Rattle.std.proofs.lemmas.Bool.{and_parts, and_from, not_from_false, both_ways}
 use Rattle.language.specs.Tokens.{Token, Placed, in_run, blank, all, tokens_from}
@@ -78,7 +78,7 @@ cut_from (b ∷ bs) at run h = go (in_run b) refl (blank b) refl run h (cut_from
 -- ---- lexemes stand in the text at their places
 
 -- `before` is what the text has before the place
-standing : (ls : List Lexeme) (before text : List ℕ) → Lexed (length before) text ls → All (λ l. take (length l.bytes) (drop l.place (before ++ text)) ≡ l.bytes) ls
+standing : (ls : List Lexeme) (before text : List ℕ) → Lexed (length before) text ls → AllByRecursion (λ l. take (length l.bytes) (drop l.place (before ++ text)) ≡ l.bytes) ls
 standing [] before text h = tt
 standing (l ∷ ls) before text (gap, rest, e, blanks, p, w, more) =
     let n : length before + length gap + length l.bytes ≡ length (before ++ gap ++ l.bytes) = simp length-append in
@@ -90,7 +90,7 @@ standing (l ∷ ls) before text (gap, rest, e, blanks, p, w, more) =
     ∙ take-append_seam l.bytes rest in
     let later = standing ls (before ++ gap ++ l.bytes) rest (subst (λ m. Lexed m rest ls) n more) in
     let same : before ++ gap ++ l.bytes ++ rest ≡ before ++ text = append_assoc (before ++ gap) l.bytes rest ∙ sym whole in
-    (here, subst (λ x. All (λ l. take (length l.bytes) (drop l.place x) ≡ l.bytes) ls) same later)
+    (here, subst (λ x. AllByRecursion (λ l. take (length l.bytes) (drop l.place x) ≡ l.bytes) ls) same later)
 
 -- ---- and are its bytes that are not blank
 
