@@ -1,7 +1,7 @@
 // The bytes of one output line of numbers.
 #![tactic(auto)]
 
-ghost use Rattle.std.specs.Prelude.{◌≡◌, ◌/◌, ◌^◌, IfOk, string_bytes};
+ghost use Rattle.std.specs.Prelude.{◌≡◌, ◌/◌, ◌^◌, ◌++◌, IfOk, string_bytes};
 ghost use Rattle.encodings.specs.Digits.{digits};
 ghost use Rattle.figures.specs.Line.{digit_text, magnitude_text, number_text, value_text, row_text, line_with, line_bytes};
 ghost use Rattle.figures.specs.Reading.{Shows, LineShows};
@@ -42,12 +42,19 @@ fn magnitude(heap: Global, n: u64, places: u8) -> Result<String, AllocError>
     format!(in heap; "{above}.{below}")
 }
 
+// A sign and what stands after it.
+fn signed(heap: Global, sign: &str, size: &str) -> Result<String, AllocError>
+    ensures { IfOk result (λ s. string_bytes s ≡ sign.now ++ size.now) }
+{
+    format!(in heap; "{sign}{size}")
+}
+
 fn figure(heap: Global, number: i64, places: u8) -> Result<String, AllocError>
     ensures { IfOk result (λ s. string_bytes s ≡ number_text places number) }
 {
     let sign = if number < 0 { "-" } else { "" };
     let size = magnitude(heap, number.unsigned_abs(), places)?;
-    format!(in heap; "{sign}{size}")
+    signed(heap, sign, size.as_str())
 }
 
 fn value(heap: Global, number: Option<i64>, places: u8) -> Result<String, AllocError>
