@@ -43,3 +43,11 @@ Lawful forms = (letter size : ℕ) → IfSome (forms letter size) LawfulForm
 -- two banks side by side: the left is asked first, the right has what the left lacks
 abbrev pub beside : Forms → Forms → Forms
 beside l r letter size = elim (l letter size) [ None ↦ r letter size | Some f ↦ Some f ]
+
+-- side by side, two lawful banks are a lawful one
+pub beside_lawful : (l r : Forms) → Lawful l → Lawful r → Lawful (beside l r)
+beside_lawful l r p q letter size = go (l letter size) (p letter size)
+  where
+    go : (f : Option Form) → IfSome f LawfulForm → IfSome (elim f [ None ↦ r letter size | Some f ↦ Some f ]) LawfulForm
+    go None h = q letter size
+    go (Some f) h = h

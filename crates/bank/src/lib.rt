@@ -2,10 +2,9 @@
 #![tactic(auto)]
 
 ghost use Rattle.std.specs.Prelude.{◌≡◌, ◌&&◌, int_le};
-ghost use Rattle.bank.specs.Model.{Forms, Lawful, beside};
+ghost use Rattle.bank.specs.Model.{Forms, Lawful, beside, beside_lawful};
 ghost use Rattle.bank.specs.Answers.{shape_of, read_by, Writes};
 ghost use Rattle.bank.specs.ReadsBack.{ReadsBack};
-ghost use Rattle.std.proofs.Common.{rules};
 
 // Why a bank does not read or write; `as u8` gives the refusal's number.
 #[derive(Clone, Copy, PartialEq, Debug)]
@@ -63,7 +62,7 @@ pub struct Beside<L, R> {
 impl<L: Bank, R: Bank> Bank for Beside<L, R> {
     ghost forms = { λ b. beside (L.Bank.forms b.left) (R.Bank.forms b.right) };
 
-    ghost lawful = { Prim.search rules };
+    ghost lawful = { λ b. beside_lawful _ _ (L.Bank.lawful b.left) (R.Bank.lawful b.right) };
 
     fn shape(&self, letter: char, size: u8) -> Option<Shape> {
         match self.left.shape(letter, size) {
