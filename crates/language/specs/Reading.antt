@@ -8,7 +8,7 @@ use Rattle.language.specs.declared.Rounding.TheVariants.{Dropped, Nearest}
 use Rattle.language.specs.declared.Relation.{Relation}
 use Rattle.language.specs.declared.Relation.TheVariants.{Less, Equal, Greater}
 use Rattle.language.specs.Tokens.{Token, Placed, word, number, symbol, none, ends, tokens}
-use Rattle.language.specs.Words.{same_bytes, Reserved, field_word, rows_word, begin_word, end_word, rounded_word, if_word, then_word, else_word, endif_word, EachWord, endeach_word, spelling, reserved, is_name}
+use Rattle.language.specs.Words.{same_bytes, Reserved, field_word, rows_word, begin_word, end_word, rounded_word, if_word, then_word, else_word, endif_word, each_word, endeach_word, spelling, reserved, is_name}
 use Rattle.language.specs.Syntax.{Sheet, Field, Sign, adds, takes, Expr, Term, Factor, Block, only, sum, just, times, read, constant, group, minus, assign, when, either, each, empty, ◌then◌}
 use Rattle.language.specs.Layout.{ticket_length, term_places, factor_places}
 
@@ -191,7 +191,7 @@ module _ (s : State) where
   declaring_word (Some then_word) = Err Misplaced
   declaring_word (Some else_word) = Err Misplaced
   declaring_word (Some endif_word) = Err Misplaced
-  declaring_word (Some EachWord) = Err Misplaced
+  declaring_word (Some each_word) = Err Misplaced
   declaring_word (Some endeach_word) = Err Misplaced
   declaring_word None = Err Misplaced
 
@@ -298,7 +298,7 @@ module _ (s : State) where
 
   abbrev pub statement_word : List ℕ → Option Reserved → Outcome
   statement_word w (Some if_word) = begin_if
-  statement_word w (Some EachWord) = begin_each
+  statement_word w (Some each_word) = begin_each
   statement_word w (Some else_word) = at_else s.nests
   statement_word w (Some endif_word) = at_endif s.nests
   statement_word w (Some endeach_word) = at_endeach s.nests

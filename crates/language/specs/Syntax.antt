@@ -14,7 +14,7 @@ use Rattle.language.specs.declared.Rounding.TheVariants.{Dropped, Nearest}
 use Rattle.language.specs.declared.Relation.{Relation}
 use Rattle.language.specs.declared.Relation.TheVariants.{Less, Equal, Greater}
 use Rattle.language.specs.Tokens.{Token, word, number, symbol}
-use Rattle.language.specs.Words.{Reserved, spelling, field_word, rows_word, begin_word, end_word, rounded_word, if_word, then_word, else_word, endif_word, EachWord, endeach_word}
+use Rattle.language.specs.Words.{Reserved, spelling, field_word, rows_word, begin_word, end_word, rounded_word, if_word, then_word, else_word, endif_word, each_word, endeach_word}
 
 infixl 5 ◌then◌
 -- a declared field: its name, the letter (its code) and size of its form, and its places
@@ -127,7 +127,7 @@ module _ (fields : List Field) where
     stmt_tokens (either l o r b c) =
         reserved_token if_word ∷ expr_tokens fields l ++ relation_token o ∷ expr_tokens fields r
         ++ reserved_token then_word ∷ block_tokens b ++ reserved_token else_word ∷ block_tokens c ++ reserved_token endif_word ∷ []
-    stmt_tokens (each b) = reserved_token EachWord ∷ block_tokens b ++ reserved_token endeach_word ∷ []
+    stmt_tokens (each b) = reserved_token each_word ∷ block_tokens b ++ reserved_token endeach_word ∷ []
 
     pub block_tokens : Block → List Token
     block_tokens empty = []

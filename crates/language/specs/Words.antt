@@ -8,7 +8,7 @@ same_bytes (x ∷ xs) [] = false
 same_bytes (x ∷ xs) (y ∷ ys) = x == y && same_bytes xs ys
 
 pub data Reserved : Type 0 where
-  field_word rows_word begin_word end_word rounded_word if_word then_word else_word endif_word EachWord endeach_word : Reserved
+  field_word rows_word begin_word end_word rounded_word if_word then_word else_word endif_word each_word endeach_word : Reserved
 
 abbrev pub spelling : Reserved → List ℕ
 spelling field_word = codes "field"
@@ -20,7 +20,7 @@ spelling if_word = codes "if"
 spelling then_word = codes "then"
 spelling else_word = codes "else"
 spelling endif_word = codes "endif"
-spelling EachWord = codes "each"
+spelling each_word = codes "each"
 spelling endeach_word = codes "endeach"
 
 abbrev pub one_of : List Reserved → List ℕ → Option Reserved
@@ -28,7 +28,7 @@ one_of [] w = None
 one_of (r ∷ rs) w = cond (same_bytes w (spelling r)) (Some r) (one_of rs w)
 
 abbrev pub all_reserved : List Reserved
-all_reserved = field_word ∷ rows_word ∷ begin_word ∷ end_word ∷ rounded_word ∷ if_word ∷ then_word ∷ else_word ∷ endif_word ∷ EachWord ∷ endeach_word ∷ []
+all_reserved = field_word ∷ rows_word ∷ begin_word ∷ end_word ∷ rounded_word ∷ if_word ∷ then_word ∷ else_word ∷ endif_word ∷ each_word ∷ endeach_word ∷ []
 
 -- the reserved word that a word is, if any
 abbrev pub reserved : List ℕ → Option Reserved

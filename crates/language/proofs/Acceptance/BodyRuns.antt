@@ -7,7 +7,7 @@ use Rattle.language.specs.declared.Rounding.TheVariants.{Dropped, Nearest}
 use Rattle.language.specs.declared.Relation.{Relation}
 use Rattle.language.specs.declared.Relation.TheVariants.{Less, Equal, Greater}
 use Rattle.language.specs.Tokens.{Token, word, symbol}
-use Rattle.language.specs.Words.{if_word, then_word, else_word, endif_word, EachWord, endeach_word, reserved, is_name}
+use Rattle.language.specs.Words.{if_word, then_word, else_word, endif_word, each_word, endeach_word, reserved, is_name}
 use Rattle.language.specs.Syntax.{Sheet, Field, Expr, Stmt, Block, only, sum, assign, when, either, each, empty, ◌then◌, name_of, expr_tokens, stmt_tokens, block_tokens, relation_token, rounding_tokens, block_count, stmt_count, reserved_token}
 use Rattle.language.specs.Reading.{State, found, outside_each, Purpose, value_of, left_side, right_side, Nest, in_then, in_else, in_each, Phase, operand, becomes, statement, inside_each, statement_word, begin_if, begin_each, begun, to, back, begin_assignment}
 use Rattle.language.specs.Admitted as A
@@ -55,7 +55,7 @@ module _ (fields : List Field) where
       ≡ reserved_token if_word ∷ (expr_tokens fields l ++ (relation_token o ∷ (expr_tokens fields r ++ (reserved_token then_word ∷ (block_tokens fields c ++ (reserved_token else_word ∷ (block_tokens fields d ++ reserved_token endif_word ∷ rest)))))))
   either_tokens l o r c d rest = simp append_assoc
 
-  pub each_tokens : (c : Block) (rest : List Token) → stmt_tokens fields (each c) ++ rest ≡ reserved_token EachWord ∷ (block_tokens fields c ++ reserved_token endeach_word ∷ rest)
+  pub each_tokens : (c : Block) (rest : List Token) → stmt_tokens fields (each c) ++ rest ≡ reserved_token each_word ∷ (block_tokens fields c ++ reserved_token endeach_word ∷ rest)
   each_tokens c rest = simp append_assoc
 
 module _ (forms : Forms) (head : List Field) (rows : ℕ) (row_fields : List Field) (known : Known (head ++ row_fields)) where

@@ -7,7 +7,7 @@ use Rattle.language.specs.declared.Rounding.{Rounding}
 use Rattle.language.specs.declared.Rounding.TheVariants.{Dropped, Nearest}
 use Rattle.language.specs.declared.Relation.{Relation}
 use Rattle.language.specs.Tokens.{Token, word, symbol}
-use Rattle.language.specs.Words.{same_bytes, spelling, Reserved, field_word, rows_word, begin_word, end_word, rounded_word, if_word, then_word, else_word, endif_word, EachWord, endeach_word}
+use Rattle.language.specs.Words.{same_bytes, spelling, Reserved, field_word, rows_word, begin_word, end_word, rounded_word, if_word, then_word, else_word, endif_word, each_word, endeach_word}
 use Rattle.language.specs.Syntax.{Sheet, Field, Expr, Stmt, Block, assign, when, either, each, empty, ◌then◌, name_of, expr_tokens, block_tokens, stmt_tokens, rounding_tokens, reserved_token}
 use Rattle.language.specs.Reading.{expect, State, Outcome, relation_of, found, outside_each, Purpose, value_of, left_side, right_side, Nest, in_then, in_else, in_each, Phase, becomes, operand, closing, inside_each, goes, back, begun, after_by_symbol, after_by_word, begin_if, begin_each, begin_assignment, at_else, at_endif, at_endeach, at_end, on_symbol, refuse_if, statement_word}
 use Rattle.language.specs.Admitted as A
@@ -111,7 +111,7 @@ module _ (forms : Forms) (s : State) (d : Declarations forms (bare s)) (body : B
   if_fine : Fine (Reaches forms (λ rest. in_body s (reserved_token if_word ∷ rest))) (begin_if s)
   if_fine = room_fine _ _ (λ few deep. record { sound = record { declarations = d; at = (one_more few, deep, tt, omega arith) }; same = λ rest. refl })
 
-  each_fine : Fine (Reaches forms (λ rest. in_body s (reserved_token EachWord ∷ rest))) (begin_each s)
+  each_fine : Fine (Reaches forms (λ rest. in_body s (reserved_token each_word ∷ rest))) (begin_each s)
   each_fine = fine_refuse_if _ _ RowMisused _ (λ e. room_fine _ _ (λ few deep.
       let (rows, outside) = or_parts (eqb s.rows 0) (inside_each s.nests) e in
       let no_zero = eqb-false s.rows 0 rows in
@@ -242,6 +242,6 @@ statement_fine forms s d body w (Some if_word) sp = fine_same forms _ _ (begin_i
 statement_fine forms s d body w (Some then_word) sp = tt
 statement_fine forms s d body w (Some else_word) sp = fine_same forms _ _ (at_else s s.nests) (λ rest. ap (λ v. in_body s (word v ∷ rest)) (sym sp)) (else_fine forms s.head s.rows s.row_fields s.statements s.so_far s.phase s.nests d body)
 statement_fine forms s d body w (Some endif_word) sp = fine_same forms _ _ (at_endif s s.nests) (λ rest. ap (λ v. in_body s (word v ∷ rest)) (sym sp)) (endif_fine forms s.head s.rows s.row_fields s.statements s.so_far s.phase s.nests d body)
-statement_fine forms s d body w (Some EachWord) sp = fine_same forms _ _ (begin_each s) (λ rest. ap (λ v. in_body s (word v ∷ rest)) (sym sp)) (each_fine forms s d body)
+statement_fine forms s d body w (Some each_word) sp = fine_same forms _ _ (begin_each s) (λ rest. ap (λ v. in_body s (word v ∷ rest)) (sym sp)) (each_fine forms s d body)
 statement_fine forms s d body w (Some endeach_word) sp = fine_same forms _ _ (at_endeach s s.nests) (λ rest. ap (λ v. in_body s (word v ∷ rest)) (sym sp)) (endeach_fine forms s.head s.rows s.row_fields s.statements s.so_far s.phase s.nests d body)
 statement_fine forms s d body w None sp = assignment_fine forms s d body w

@@ -4,7 +4,7 @@ use Rattle.std.proofs.lemmas.Bool.{and_from, or_parts, ltb-false, le-leb, leb-fa
 use Rattle.bank.specs.Model.{Form, Forms}
 use Rattle.language.specs.declared.Check.TheVariants.{Misplaced, DeclaredBefore, FormLacking, OutOfBounds, TooMany}
 use Rattle.language.specs.Tokens.{Token, word, number}
-use Rattle.language.specs.Words.{Reserved, field_word, rows_word, begin_word, end_word, rounded_word, if_word, then_word, else_word, endif_word, EachWord, endeach_word, is_name}
+use Rattle.language.specs.Words.{Reserved, field_word, rows_word, begin_word, end_word, rounded_word, if_word, then_word, else_word, endif_word, each_word, endeach_word, is_name}
 use Rattle.language.specs.Syntax.{Sheet, Field, Block, empty, block_tokens, fields_tokens, rows_tokens, reserved_token}
 use Rattle.language.specs.Layout.{ticket_length}
 use Rattle.language.specs.Reading.{State, found, Nest, declaring, field_name, field_letter, field_size, field_places, row_count, goes, with_field, sheet_of, declaring_word, name_field, letter_field, on_number}
@@ -56,7 +56,7 @@ module _ (forms : Forms) (s : State) (d : Declarations forms (bare s)) where
   declaring_fine u w (Some then_word) sp = tt
   declaring_fine u w (Some else_word) sp = tt
   declaring_fine u w (Some endif_word) sp = tt
-  declaring_fine u w (Some EachWord) sp = tt
+  declaring_fine u w (Some each_word) sp = tt
   declaring_fine u w (Some endeach_word) sp = tt
   declaring_fine u w None sp = tt
 

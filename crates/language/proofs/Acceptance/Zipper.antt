@@ -2,7 +2,7 @@
 use Rattle.std.proofs.Common.{◌≡◌, ℕ, ◌+◌, ◌<◌, ◌≤◌, Bool, true, false, List, [], ◌∷◌, ◌++◌, length, is_some, None, Ok, Err}
 use Rattle.bank.specs.Model.{Forms}
 use Rattle.language.specs.Tokens.{Token, word, number, symbol}
-use Rattle.language.specs.Words.{is_name, begin_word, rounded_word, rows_word, field_word, if_word, end_word, EachWord, then_word, else_word}
+use Rattle.language.specs.Words.{is_name, begin_word, rounded_word, rows_word, field_word, if_word, end_word, each_word, then_word, else_word}
 use Rattle.language.specs.Syntax.{sign_token, Sheet, Field, Expr, Block, empty, name_of, expr_tokens, term_tokens, relation_token, block_tokens, fields_tokens, rows_tokens, block_count, reserved_token}
 use Rattle.language.specs.Reading.{State, Outcome, Purpose, value_of, left_side, right_side, Open, sum_of, product_of, opened, negated, Nest, in_then, in_else, in_each, Phase, declaring, field_name, field_letter, field_size, field_places, row_count, statement, becomes, operand, operator, closing, finished, found_from, levels, inside_each}
 use Rattle.language.specs.Admitted as A
@@ -32,7 +32,7 @@ module _ (fields : List Field) where
       nested ns (block_tokens fields b ++ (reserved_token if_word ∷ (expr_tokens fields l ++ (relation_token o ∷ (expr_tokens fields r ++ reserved_token then_word ∷ rest)))))
   nested (in_else b l o r c ∷ ns) rest =
       nested ns (block_tokens fields b ++ (reserved_token if_word ∷ (expr_tokens fields l ++ (relation_token o ∷ (expr_tokens fields r ++ (reserved_token then_word ∷ (block_tokens fields c ++ reserved_token else_word ∷ rest)))))))
-  nested (in_each b ∷ ns) rest = nested ns (block_tokens fields b ++ reserved_token EachWord ∷ rest)
+  nested (in_each b ∷ ns) rest = nested ns (block_tokens fields b ++ reserved_token each_word ∷ rest)
 
 module _ (s : State) where
   abbrev pub declared_then : List Token → List Token
