@@ -21,17 +21,17 @@ use Rattle.ledger.specs.Runs.{OpenRun, run_of, begun, spent_in}
 
 -- by what it is answered a call may change the ticket: a load unless a run is open, a lay that is laid, an enter that is
 -- entered, a work that finishes, and no other
-abbrev pub may_change : Call → Answer → Type 0
-may_change (Load p) a = a ≡ Refused RunOpen → ⊥
-may_change (Lay p) a = a ≡ Laid
-may_change (Enter f row n) a = a ≡ Entered
-may_change (Work budget) a = (n : ℕ) × (a ≡ Finished n)
-may_change Drop a = ⊥
-may_change (Read f row) a = ⊥
+abbrev pub MayChange : Call → Answer → Type 0
+MayChange (Load p) a = a ≢ Refused RunOpen
+MayChange (Lay p) a = a ≡ Laid
+MayChange (Enter f row n) a = a ≡ Entered
+MayChange (Work budget) a = (n : ℕ) × (a ≡ Finished n)
+MayChange Drop a = ⊥
+MayChange (Read f row) a = ⊥
 
 -- an answer is no refusal
-abbrev pub accepted : Answer → Type 0
-accepted a = (why : CallRefusal) → a ≢ Refused why
+abbrev pub IsAccepted : Answer → Type 0
+IsAccepted a = (why : CallRefusal) → a ≢ Refused why
 
 module _ (forms : Forms) (lent : List ℕ) where
   -- the ledger after a list of calls
@@ -57,7 +57,7 @@ module _ (forms : Forms) (lent : List ℕ) where
   -- a call that changes the ticket is one that may, and what the ticket then is (after a work that finishes: `Ends`)
   pub record Changes : Type 0 where
     pub only : (cs : List Call) (c : Call)
-        → ((ledger (cs ++ c ∷ [])).ticket ≢ (ledger cs).ticket) → may_change c (answer_to cs c)
+        → ((ledger (cs ++ c ∷ [])).ticket ≢ (ledger cs).ticket) → MayChange c (answer_to cs c)
     pub loads : (cs : List Call) (p : Place)
         → (answer_to cs (Load p) ≢ Refused RunOpen) → (ledger (cs ++ Load p ∷ [])).ticket ≡ None
     pub lays : (cs : List Call) (p : Place)
@@ -110,7 +110,7 @@ module _ (forms : Forms) (lent : List ℕ) where
         → answer_to cs (Work budget) ≡ Stopped n e → run_sum cs budget < length (course_of opened).entries
 
   abbrev pub Stopping : Type 0
-  Stopping = (cs : List Call) (budget : ℕ) → accepted (answer_to cs (Work budget)) → Stops cs budget
+  Stopping = (cs : List Call) (budget : ℕ) → IsAccepted (answer_to cs (Work budget)) → Stops cs budget
 
   -- a course that finished: its length is the count, its ticket stands, and the run is closed
   pub record Finishes (cs : List Call) (budget : ℕ) (entries : List Entry) (ticket : List ℕ) : Type 0 where
@@ -133,7 +133,7 @@ module _ (forms : Forms) (lent : List ℕ) where
         → Faults cs budget (course_of opened).entries b opened.ticket
 
   abbrev pub Ending : Type 0
-  Ending = (cs : List Call) (budget : ℕ) → accepted (answer_to cs (Work budget))
+  Ending = (cs : List Call) (budget : ℕ) → IsAccepted (answer_to cs (Work budget))
       → ((n : ℕ) (e : Entry) → answer_to cs (Work budget) ≢ Stopped n e) → Ends cs budget
 
   -- ---- refusals

@@ -10,13 +10,13 @@ use Rattle.ledger.specs.declared.Call.TheVariants.{Load, Lay, Enter}
 use Rattle.ledger.specs.declared.CallRefusal.TheVariants.{Text, RunOpen}
 use Rattle.ledger.specs.declared.Answer.TheVariants.{Loaded, Laid, Entered, Refused}
 use Rattle.ledger.specs.Ledger.{Run, Ledger, fresh, Answered, loads, at, answered}
-use Rattle.ledger.specs.Laws.{may_change, ledger, Stored, Changes}
+use Rattle.ledger.specs.Laws.{MayChange, ledger, Stored, Changes}
 use Rattle.ledger.proofs.Laws.Effects.{Effect, refused, unread, loaded, laid, entered, stopped, finished, faulted, dropped, number, effect, standing}
 use Rattle.ledger.proofs.Laws.Lists.{one_more}
 
 module _ (forms : Forms) (lent : List ℕ) where
   only : {l : Ledger} {c : Call} {x : Answered} → Effect forms lent l c x
-      → (x.after.ticket ≡ l.ticket → ⊥) → may_change c x.answer
+      → (x.after.ticket ≡ l.ticket → ⊥) → MayChange c x.answer
   only (refused why e) h = absurd (h refl)
   only (unread p r e) h = λ e. let z : ◌≡◌ {A = ℕ} 0 1 = cc in absurd (omega arith)
   only (loaded p s k) h = λ e. let z : ◌≡◌ {A = ℕ} 0 1 = cc in absurd (omega arith)

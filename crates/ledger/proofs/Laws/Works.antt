@@ -9,7 +9,7 @@ use Rattle.ledger.specs.declared.Call.TheVariants.{Work}
 use Rattle.ledger.specs.declared.Answer.TheVariants.{Stopped}
 use Rattle.ledger.specs.Ledger.{Ledger, fresh, Answered, open_or, answered, answers}
 use Rattle.ledger.specs.Runs.{run_of}
-use Rattle.ledger.specs.Laws.{accepted, ledger, Opened, Stops, Ends, Stopping, Ending}
+use Rattle.ledger.specs.Laws.{IsAccepted, ledger, Opened, Stops, Ends, Stopping, Ending}
 use Rattle.ledger.proofs.Laws.Effects.{Effect, refused, stopped, finished, faulted, effect, sum_with, course_on}
 use Rattle.ledger.proofs.Laws.Lists.{one_more}
 use Rattle.ledger.proofs.Laws.Runs.{Working, working, told}
@@ -47,7 +47,7 @@ module _ (forms : Forms) (lent : List ℕ) (cs : List Call) (budget : ℕ) where
     only = λ n e k. absurd (none n e k);
   }
 
-  stop : {x : Answered} → answered forms lent now (Work budget) ≡ x → Effect forms lent now (Work budget) x → accepted x.answer
+  stop : {x : Answered} → answered forms lent now (Work budget) ≡ x → Effect forms lent now (Work budget) x → IsAccepted x.answer
       → Stops forms lent cs budget
   stop q (refused why k) h = absurd (h why refl)
   stop q (stopped _ s t a b some c) h =
@@ -72,7 +72,7 @@ module _ (forms : Forms) (lent : List ℕ) (cs : List Call) (budget : ℕ) where
   run_after : {x : Answered} → answered forms lent now (Work budget) ≡ x → (ledger forms lent (cs ++ Work budget ∷ [])).run ≡ x.after.run
   run_after q = ap (λ (l : Ledger). l.run) (after q)
 
-  end : {x : Answered} → answered forms lent now (Work budget) ≡ x → Effect forms lent now (Work budget) x → accepted x.answer
+  end : {x : Answered} → answered forms lent now (Work budget) ≡ x → Effect forms lent now (Work budget) x → IsAccepted x.answer
       → ((n : ℕ) (e : Entry) → x.answer ≡ Stopped n e → ⊥) → Ends forms lent cs budget
   end q (refused why k) h g = absurd (h why refl)
   end q (stopped _ s t a b some c) h g = absurd (g _ _ refl)
