@@ -6,6 +6,13 @@ use Rattle.bank.specs.declared.BankRefusal.{BankRefusal}
 use Rattle.bank.specs.declared.BankRefusal.TheVariants.{Lacking, WrongWidth, OutOfRange, NoValue}
 use Rattle.bank.specs.declared.Shape.{Shape}
 
+-- the number of each refusal
+abbrev pub refusal_number : BankRefusal → ℕ
+refusal_number Lacking = 1
+refusal_number WrongWidth = 2
+refusal_number OutOfRange = 3
+refusal_number NoValue = 4
+
 -- width and range
 abbrev pub shape_of : Option Form → Option Shape
 shape_of None = None

@@ -3,11 +3,11 @@
 
 ghost use Rattle.std.specs.Prelude.{◌≡◌, ◌&&◌, int_le};
 ghost use Rattle.bank.specs.Model.{Forms, Lawful, beside, beside_lawful};
-ghost use Rattle.bank.specs.Answers.{shape_of, read_by, Writes};
+ghost use Rattle.bank.specs.Answers.{refusal_number, shape_of, read_by, Writes};
 ghost use Rattle.bank.specs.ReadsBack.{ReadsBack};
 
-// Why a bank does not read or write; `as u8` gives the refusal's number.
-#[derive(Clone, Copy, PartialEq, Debug)]
+// Why a bank does not read or write.
+#[derive(Clone, Copy, Debug, PartialEq, Eq, Hash)]
 pub enum BankRefusal {
     Lacking = 1,
     WrongWidth = 2,
@@ -15,8 +15,24 @@ pub enum BankRefusal {
     NoValue = 4,
 }
 
+// The number that a refusal is answered by.
+impl From<BankRefusal> for u8 {
+    ghost from_gives = { λ refusal number. number ≡ refusal_number refusal };
+
+    fn from(refusal: BankRefusal) -> u8 {
+        refusal as u8
+    }
+}
+
+// What a form goes by: a letter and a size.
+#[derive(Clone, Copy, Debug, PartialEq, Eq, Hash)]
+pub struct FormName {
+    pub letter: char,
+    pub size: u8,
+}
+
 // A form as a caller sees it: its width in bytes, and the lowest and highest number that it holds.
-#[derive(Clone, Copy)]
+#[derive(Clone, Copy, Debug, PartialEq, Eq, Hash)]
 pub struct Shape {
     pub width: usize,
     pub low: i64,
@@ -32,22 +48,22 @@ impl Shape {
     }
 }
 
-// A bank has a number form for a letter and a size, or lacks it, always alike.
+// A bank has a number form by a name, or lacks it, always alike.
 // `forms` is what it means; its calls answer by that alone.
 pub trait Bank {
     ghost forms: { Self → Forms };
 
     // Width and range of a form, or none where the bank lacks it.
-    fn shape(&self, letter: char, size: u8) -> Option<Shape>
-        ensures { result ≡ shape_of (forms self.now letter size) };
+    fn shape(&self, name: FormName) -> Option<Shape>
+        ensures { result ≡ shape_of (forms self.now name.letter name.size) };
 
     // The number that the part stands for.
-    fn read(&self, letter: char, size: u8, part: &[u8]) -> Result<i64, BankRefusal>
-        ensures { result ≡ read_by (forms self.now letter size) part.now };
+    fn read(&self, name: FormName, part: &[u8]) -> Result<i64, BankRefusal>
+        ensures { result ≡ read_by (forms self.now name.letter name.size) part.now };
 
     // Puts the number's image into the part; a refusal leaves the part as it was.
-    fn write(&self, letter: char, size: u8, number: i64, part: &mut [u8]) -> Result<(), BankRefusal>
-        ensures { Writes (forms self.now letter size) number part.old part.new result };
+    fn write(&self, name: FormName, number: i64, part: &mut [u8]) -> Result<(), BankRefusal>
+        ensures { Writes (forms self.now name.letter name.size) number part.old part.new result };
 
     ghost lawful: { (b : Self) → Lawful (forms b) };
 }
@@ -64,37 +80,27 @@ impl<L: Bank, R: Bank> Bank for Beside<L, R> {
 
     ghost lawful = { λ b. beside_lawful _ _ (L.Bank.lawful b.left) (R.Bank.lawful b.right) };
 
-    fn shape(&self, letter: char, size: u8) -> Option<Shape> {
-        match self.left.shape(letter, size) {
-            Some(s) => Some(s),
-            None => self.right.shape(letter, size),
+    fn shape(&self, name: FormName) -> Option<Shape> {
+        self.left.shape(name).or_else(|| self.right.shape(name))
+    }
+
+    fn read(&self, name: FormName, part: &[u8]) -> Result<i64, BankRefusal> {
+        match self.left.shape(name) {
+            Some(_) => self.left.read(name, part),
+            None => self.right.read(name, part),
         }
     }
 
-    fn read(&self, letter: char, size: u8, part: &[u8]) -> Result<i64, BankRefusal> {
-        match self.left.shape(letter, size) {
-            Some(_) => self.left.read(letter, size, part),
-            None => self.right.read(letter, size, part),
-        }
-    }
-
-    fn write(
-        &self,
-        letter: char,
-        size: u8,
-        number: i64,
-        part: &mut [u8],
-    ) -> Result<(), BankRefusal> {
-        match self.left.shape(letter, size) {
-            Some(_) => self.left.write(letter, size, number, part),
-            None => self.right.write(letter, size, number, part),
+    fn write(&self, name: FormName, number: i64, part: &mut [u8]) -> Result<(), BankRefusal> {
+        match self.left.shape(name) {
+            Some(_) => self.left.write(name, number, part),
+            None => self.right.write(name, number, part),
         }
     }
 }
 
 // In every bank, a number that was written is read back as that number.
-pub fn written_reads_back() -> u8
+#[tactic(auto, using(crate::proofs::ReadsBack::reads_back))]
+pub fn written_reads_back()
     ensures { ReadsBack }
-{
-    0
-}
+{}
