@@ -32,3 +32,7 @@ digits_within b i k n h l m = omega (arith, pow-le-pow_right h m)
 
 pub digits_more : (b i n d : ℕ) → n < b ^ i → d < b → n * b + d < b ^ (i + 1)
 digits_more b i n d l h = rw (add-one i, pow-suc b i) (digits_lt l h)
+
+-- k digits that fit have room for one more after i of them
+pub room : (b i k n d : ℕ) → 0 < b → n < b ^ i → d < b → i + 1 ≤ k → b ^ k ≤ 10 ^ 16 → n * b + d < 2 ^ 64
+room b i k n d h l m j r = omega (arith, digits_within b (i + 1) k (n * b + d) h (digits_more b i n d l m) j, r)

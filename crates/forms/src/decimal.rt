@@ -1,36 +1,44 @@
-// What zoned and packed numbers share: the sign half, and the highest number of so many digits.
-ghost use Rattle.std.specs.Prelude.{◌≡◌, ℕ, ◌-◌, ◌^◌, ◌<◌, ◌≤◌, pos};
-ghost use Rattle.encodings.specs.Decimal.{with_sign, sign_of};
+// Decimal numbers, zoned and packed: digits in the order of the bytes, and a sign in the last byte beside one of them.
+ghost use Rattle.std.specs.Prelude.{◌≡◌, ℕ, ◌^◌, ◌<◌, ◌≤◌, length, unsigned_abs};
+ghost use Rattle.encodings.specs.Decimal.{digits_then_sign, with_sign, sign_of};
+ghost use Rattle.encodings.specs.Layouts.{DigitLayout, LawfulDigitLayout};
 
-// The highest number by its count of digits.
-const HIGHEST: [i64; 16] = [
-    0,
-    9,
-    99,
-    999,
-    9_999,
-    99_999,
-    999_999,
-    9_999_999,
-    99_999_999,
-    999_999_999,
-    9_999_999_999,
-    99_999_999_999,
-    999_999_999_999,
-    9_999_999_999_999,
-    99_999_999_999_999,
-    999_999_999_999_999,
-];
+// How digits stand in the bytes of a kind of decimal number.
+pub(crate) trait Layout {
+    // A byte before the last is one digit in this base.
+    const BASE: u64;
 
-pub(crate) fn highest(size: u8) -> i64
-    requires { size ≤ 15 }
-    ensures { result ≡ pos (10 ^ size - 1) }
-{
-    HIGHEST[size as usize]
+    ghost BASE: { ℕ };
+
+    ghost layout: { DigitLayout };
+
+    // The digit of a byte before the last, if it is one.
+    fn digit(byte: u8) -> Option<u64>
+        ensures { result ≡ layout.digit byte };
+
+    // The byte of such a digit.
+    fn byte(digit: u64) -> u8
+        requires { digit < BASE }
+        ensures { result ≡ layout.byte digit };
+
+    // The digit half and the sign half of the last byte.
+    fn ends(byte: u8) -> (u8, u8)
+        ensures digit { result.0 ≡ layout.digit_half byte }
+        ensures sign { result.1 ≡ layout.sign_half byte };
+
+    // The last byte of a digit and a sign half.
+    fn last(digit: u8, sign: u8) -> u8
+        requires digit { digit < 10 }
+        requires sign { sign < 16 }
+        ensures { result ≡ layout.last digit sign };
+
+    ghost base_is: { BASE ≡ layout.base };
+
+    ghost lawful: { LawfulDigitLayout layout };
 }
 
 // The number by its sign half: plus for A, C, E and F, minus for B and D, none below A.
-pub(crate) fn with_sign(sign: u8, magnitude: u64) -> Option<i64>
+fn with_sign(sign: u8, magnitude: u64) -> Option<i64>
     requires { magnitude < 2 ^ 63 }
     ensures { result ≡ with_sign sign magnitude }
 {
@@ -43,8 +51,40 @@ pub(crate) fn with_sign(sign: u8, magnitude: u64) -> Option<i64>
 }
 
 // The sign half that is written: C for zero and above, D below.
-pub(crate) fn sign_of(number: i64) -> u8
+fn sign_of(number: i64) -> u8
     ensures { result ≡ sign_of number }
 {
     if number >= 0 { 12 } else { 13 }
+}
+
+// The number of a part, if each of its halves but the last is a digit, and the last a sign.
+pub(crate) fn value<L: Layout>(part: &[u8]) -> Option<i64>
+    requires { L.BASE ^ length part.now ≤ 10 ^ 16 }
+    ensures { result ≡ digits_then_sign 0 (L.layout.halves part.now) }
+{
+    let (last, front) = part.split_last()?;
+    let mut n = 0;
+    for byte in front {
+        n = n * L::BASE + L::digit(*byte)?;
+    }
+    let (digit, sign) = L::ends(*last);
+    if digit > 9 {
+        return None;
+    }
+    with_sign(sign, n * 10 + u64::from(digit))
+}
+
+// Writes the magnitude's lowest digits, as many as the part holds, and the sign.
+pub(crate) fn put<L: Layout>(number: i64, part: &mut [u8])
+    requires { 1 ≤ length part.old }
+    ensures { part.new ≡ L.layout.image (sign_of number) (length part.old) (unsigned_abs number) }
+{
+    let magnitude = number.unsigned_abs();
+    let last = part.len() - 1;
+    part[last] = L::last((magnitude % 10) as u8, sign_of(number));
+    let mut rest = magnitude / 10;
+    for i in (0..last).rev() {
+        part[i] = L::byte(rest % L::BASE);
+        rest /= L::BASE;
+    }
 }

@@ -1,12 +1,13 @@
 // A form of the shipped bank: what it holds, and how a part is read and written by it.
 ghost use Rattle.std.specs.Prelude.{◌≡◌, ◌-◌, ◌^◌, ◌≤◌, true, length, pos, negsuc, Some};
-ghost use Rattle.std.specs.Option.{option_map};
 ghost use Rattle.bank.specs.Model.{Within};
 ghost use Rattle.bank.specs.Answers.{shape_of};
-ghost use Rattle.encodings.specs.Shipped.{kind_of, has_size, form_of, shipped};
+ghost use Rattle.encodings.specs.Shipped.{has_size, form_of};
 
-use crate::{binary, decimal, packed, zoned};
-use bank::Shape;
+use crate::packed::Packed;
+use crate::zoned::Zoned;
+use crate::{binary, decimal, packed};
+use bank::{BankRefusal, FormName, Shape};
 use encodings::Kind;
 
 // A kind, and a size that it has.
@@ -17,45 +18,38 @@ pub struct Format {
     ghost good: { has_size kind size ≡ true },
 }
 
-fn kind_of(letter: char) -> Option<Kind>
-    ensures { result ≡ kind_of letter }
-{
-    match letter {
-        'z' => Some(Kind::Zoned),
-        'p' => Some(Kind::Packed),
-        'b' => Some(Kind::Signed),
-        'n' => Some(Kind::Unsigned),
-        _ => None,
-    }
-}
+// The form by its name.
+impl TryFrom<FormName> for Format {
+    type Error = BankRefusal;
 
-fn has_size(kind: Kind, size: u8) -> bool
-    ensures { result ≡ has_size kind size }
-{
-    match kind {
-        Kind::Zoned | Kind::Packed => 1 <= size && size <= 15,
-        Kind::Signed | Kind::Unsigned => size == 2 || size == 4,
-    }
-}
+    ghost use Rattle.std.specs.Prelude.{◌≡◌, Some, None, MatchResult};
+    ghost use Rattle.bank.specs.declared.BankRefusal.TheVariants.{Lacking};
+    ghost use Rattle.encodings.specs.Shipped.{form_of, shipped};
 
-// The form for a letter and a size.
-pub(crate) fn find(letter: char, size: u8) -> Option<Format>
-    ensures { option_map (λ f. form_of f.kind f.size) result ≡ shipped letter size }
-{
-    let kind = kind_of(letter)?;
-    if has_size(kind, size) {
-        Some(Format { kind, size })
-    } else {
-        None
+    ghost try_from_gives = { λ name format. MatchResult format (λ f. shipped name.letter name.size ≡ Some (form_of f.kind f.size)) (λ e. (shipped name.letter name.size ≡ None) × (e ≡ Lacking)) };
+
+    fn try_from(name: FormName) -> Result<Format, BankRefusal> {
+        let kind = Kind::try_from(name.letter)?;
+        if kind.has_size(name.size) {
+            Ok(Format {
+                kind,
+                size: name.size,
+            })
+        } else {
+            Err(BankRefusal::Lacking)
+        }
     }
 }
 
 // A width, and the range of so many digits.
 fn decimal_shape(size: u8, width: usize) -> Shape
-    requires { (1 ≤ size) × (size ≤ 15) }
-    ensures { (result.width ≡ width) × ((result.low ≡ negsuc (10 ^ size - 2)) × (result.high ≡ pos (10 ^ size - 1))) }
+    requires some { 1 ≤ size }
+    requires few { size ≤ 15 }
+    ensures width { result.width ≡ width }
+    ensures low { result.low ≡ negsuc (10 ^ size - 2) }
+    ensures high { result.high ≡ pos (10 ^ size - 1) }
 {
-    let high = decimal::highest(size);
+    let high = 10i64.pow(u32::from(size)) - 1;
     Shape {
         width,
         low: -high,
@@ -68,12 +62,12 @@ impl Format {
         ensures { Some result ≡ shape_of (Some (form_of self.now.kind self.now.size)) }
     {
         let size = self.size;
-        let width = size as usize;
+        let width = usize::from(size);
         match self.kind {
             Kind::Zoned => decimal_shape(size, width),
             Kind::Packed => decimal_shape(size, width / 2 + 1),
             Kind::Signed => {
-                let half = (binary::count(size) / 2) as i64;
+                let half = 256i64.pow(u32::from(size)) / 2;
                 Shape {
                     width,
                     low: -half,
@@ -83,7 +77,7 @@ impl Format {
             Kind::Unsigned => Shape {
                 width,
                 low: 0,
-                high: binary::count(size) as i64 - 1,
+                high: 256i64.pow(u32::from(size)) - 1,
             },
         }
     }
@@ -94,24 +88,23 @@ impl Format {
         ensures { result ≡ (form_of self.now.kind self.now.size).value part.now }
     {
         match self.kind {
-            Kind::Zoned => zoned::value(part),
+            Kind::Zoned => decimal::value::<Zoned>(part),
             Kind::Packed => packed::value(self.size, part),
-            Kind::Signed => Some(binary::from_complement(self.size, binary::whole(part))),
-            Kind::Unsigned => Some(binary::whole(part) as i64),
+            Kind::Signed => Some(binary::signed(part)),
+            Kind::Unsigned => Some(binary::unsigned(part)),
         }
     }
 
     // Puts the image of a number that the form holds into a part of its width.
     pub(crate) fn put(&self, number: i64, part: &mut [u8])
-        requires { (length part.old ≡ (form_of self.now.kind self.now.size).width) × (Within (form_of self.now.kind self.now.size) number) }
+        requires width { length part.old ≡ (form_of self.now.kind self.now.size).width }
+        requires held { Within (form_of self.now.kind self.now.size) number }
         ensures { part.new ≡ (form_of self.now.kind self.now.size).image number }
     {
-        let magnitude = number.unsigned_abs();
         match self.kind {
-            Kind::Zoned => zoned::put(decimal::sign_of(number), magnitude, part),
-            Kind::Packed => packed::put(decimal::sign_of(number), magnitude, part),
-            Kind::Signed => binary::put(binary::complement(self.size, number), part),
-            Kind::Unsigned => binary::put(magnitude, part),
+            Kind::Zoned => decimal::put::<Zoned>(number, part),
+            Kind::Packed => decimal::put::<Packed>(number, part),
+            Kind::Signed | Kind::Unsigned => binary::put(number, part),
         }
     }
 }

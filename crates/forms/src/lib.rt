@@ -4,8 +4,8 @@
 ghost use Rattle.encodings.specs.Shipped.{shipped};
 ghost use Rattle.encodings.proofs.Shipped.{shipped_lawful};
 
-use bank::{Bank, BankRefusal, Shape};
-use format::find;
+use bank::{Bank, BankRefusal, FormName, Shape};
+use format::Format;
 
 mod binary;
 mod decimal;
@@ -14,7 +14,7 @@ mod packed;
 mod zoned;
 
 // The shipped bank.
-#[derive(Clone, Copy)]
+#[derive(Clone, Copy, Debug)]
 pub struct Shipped;
 
 impl Bank for Shipped {
@@ -22,39 +22,29 @@ impl Bank for Shipped {
 
     ghost lawful = { λ _. shipped_lawful };
 
-    fn shape(&self, letter: char, size: u8) -> Option<Shape> {
-        let form = find(letter, size)?;
-        Some(form.shape())
+    fn shape(&self, name: FormName) -> Option<Shape> {
+        let format = Format::try_from(name).ok()?;
+        Some(format.shape())
     }
 
-    fn read(&self, letter: char, size: u8, part: &[u8]) -> Result<i64, BankRefusal> {
-        let Some(form) = find(letter, size) else {
-            return Err(BankRefusal::Lacking);
-        };
-        if part.len() != form.shape().width {
+    fn read(&self, name: FormName, part: &[u8]) -> Result<i64, BankRefusal> {
+        let format = Format::try_from(name)?;
+        if part.len() != format.shape().width {
             return Err(BankRefusal::WrongWidth);
         }
-        form.value(part).ok_or(BankRefusal::NoValue)
+        format.value(part).ok_or(BankRefusal::NoValue)
     }
 
-    fn write(
-        &self,
-        letter: char,
-        size: u8,
-        number: i64,
-        part: &mut [u8],
-    ) -> Result<(), BankRefusal> {
-        let Some(form) = find(letter, size) else {
-            return Err(BankRefusal::Lacking);
-        };
-        let shape = form.shape();
+    fn write(&self, name: FormName, number: i64, part: &mut [u8]) -> Result<(), BankRefusal> {
+        let format = Format::try_from(name)?;
+        let shape = format.shape();
         if part.len() != shape.width {
             return Err(BankRefusal::WrongWidth);
         }
         if !shape.holds(number) {
             return Err(BankRefusal::OutOfRange);
         }
-        form.put(number, part);
+        format.put(number, part);
         Ok(())
     }
 }

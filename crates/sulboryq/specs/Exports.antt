@@ -1,15 +1,8 @@
 -- What the calls from C answer: 0 and the result, or the refusal's number and nothing changed.
 use Rattle.std.specs.Prelude.{◌≡◌, ℕ, List, ℤ, Ok, Err, Result}
-use Rattle.bank.specs.Answers.{read_by, written}
+use Rattle.bank.specs.Answers.{refusal_number, read_by, written}
 use Rattle.bank.specs.declared.BankRefusal.{BankRefusal}
-use Rattle.bank.specs.declared.BankRefusal.TheVariants.{Lacking, WrongWidth, OutOfRange, NoValue}
 use Rattle.encodings.specs.Shipped.{shipped}
-
-abbrev pub refusal_number : BankRefusal → ℕ
-refusal_number Lacking = 1
-refusal_number WrongWidth = 2
-refusal_number OutOfRange = 3
-refusal_number NoValue = 4
 
 -- a place before and after a call, and the answer: the place takes the result, or stays
 abbrev pub Put : {X : Type 0} → Result X BankRefusal → X → X → ℕ → Type 0

@@ -1,23 +1,16 @@
-use Rattle.std.proofs.Common.{◌≡◌, ◌-◌, ◌/◌, ◌%◌, ◌^◌, ◌∷◌, length, sym, ap, ◌∙◌, div-one, arith}
-use Rattle.std.proofs.lemmas.List.{drop_all}
+use Rattle.std.proofs.Common.{◌≡◌, ◌-◌, length, drop, take, ap, ◌∙◌, arith, of_z, w64}
+use Rattle.std.specs.Int.{bytes_high_first}
+use Rattle.std.proofs.lemmas.List.{take_all}
+use Rattle.std.proofs.lemmas.Int.{to_z-of_z}
 use Rattle.encodings.specs.Digits.{digits}
-use Rattle.encodings.proofs.Backward.{count_more, back_more, quotient_more}
+use Rattle.encodings.proofs.Digits.{length_digits}
+use Rattle.encodings.proofs.Binary.{last_bytes}
 use Rattle.forms.proofs.binary.put.Goals as goal
 
-pub loop-i-init : goal.loop-i-init
-loop-i-init c =
-    let xs = c.args.part.now in
-    let z : length xs - length xs ≡ 0 = omega arith in
-    (drop_all (length xs) xs (omega arith) ∙ sym (ap (λ k. digits 256 k c.args.bits) z), sym (ap (λ k. c.args.bits / 256 ^ k) z ∙ div-one c.args.bits))
-
-pub loop-i-preserved : goal.loop-i-preserved
-loop-i-preserved c =
-    let n = c.args.bits in
-    let xs = c.loop-i.part in
-    let i = c.loop-i.i in
-    let len : length xs ≡ length c.args.part.now = c.loop-i.auto.part in (
-      back_more (λ k. digits 256 k n) xs i _ (omega arith) (omega arith)
-          (ap (λ q. (q % 256) ∷ digits 256 (length xs - i) n) (sym c.loop-i.invariant.1))
-          c.loop-i.invariant.0,
-      quotient_more 256 n (length xs - i) c.loop-i.rest c.loop-i.invariant.1 ∙ ap (λ k. n / 256 ^ k) (sym (count_more xs i _ (omega arith) (omega arith))),
-    )
+pub returns : goal.returns
+returns c =
+    let k = length c.args.part.now in
+    let n = of_z w64 c.args.number in
+    let all : c.to_be_bytes-bytes.result ≡ bytes_high_first 8 n = c.to_be_bytes-bytes.ensures ∙ ap (λ z. bytes_high_first 8 (of_z w64 z)) (to_z-of_z w64 c.args.number c.ranges.number) in
+    let last : drop (8 - k) c.to_be_bytes-bytes.result ≡ digits 256 k n = ap (drop (8 - k)) all ∙ last_bytes k n c.requires in
+    c.copy_from_slice.ensures.after ∙ ap (take (8 - (8 - k))) last ∙ take_all (8 - (8 - k)) (digits 256 k n) (omega (arith, length_digits 256 k n, c.requires))

@@ -6,5 +6,5 @@ use Rattle.forms.proofs.format.Format.put.Goals as goal
 pub returns-in-Packed : goal.returns-in-Packed
 returns-in-Packed c =
     let z = to_z-of_z w64 c.args.number c.ranges.number in
-    let p = packed_written c.args.self.now.kind c.args.self.now.size (length c.args.part.now) c.args.number c.in-Packed.is c.args.self.now.good c.requires.0 c.requires.1 in
+    let p = packed_written c.args.self.now.kind c.args.self.now.size (length c.args.part.now) c.args.number c.in-Packed.is c.args.self.now.good c.requires.width c.requires.held in
     cc

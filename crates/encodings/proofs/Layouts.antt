@@ -1,0 +1,123 @@
+-- Zoned and packed are lawful layouts, and what a loop over the bytes of any such layout keeps.
+use Rattle.std.proofs.Common.{◌≡◌, ℕ, zero, suc, ◌+◌, ◌-◌, ◌*◌, ◌/◌, ◌%◌, ◌^◌, ◌<◌, ◌≤◌, Bool, true, false, cond, ◌&&◌, leb, List, [], ◌∷◌, ◌++◌, length, get_or, drop, IfSome, Some, None, Option, sym, refl, ap, ◌∙◌, inl, inr, pow-suc, div-one, arith, length-append, length-drop, leb-true, mod-lt}
+use native.Mathlib.Nat.{div-div-eq-div-mul}
+use Rattle.std.proofs.lemmas.List.{at_drop_more}
+use Rattle.std.proofs.lemmas.Bool.{and_parts}
+use Rattle.std.proofs.lemmas.Bool.Decides.{nat_tests}
+use Rattle.encodings.specs.Digits.{digits}
+use Rattle.encodings.specs.Decimal.{digits_then_sign, halves, joined, zoned_halves, zoned_bytes}
+use Rattle.encodings.specs.Layouts.{DigitLayout, LawfulDigitLayout, zoned_layout, packed_layout}
+use Rattle.encodings.proofs.Decimal.{digit_on, digit_bad}
+use Rattle.encodings.proofs.Backward.{quotient_more}
+use Rattle.encodings.proofs.Zoned.{zoned_on, zoned_bad}
+use Rattle.encodings.proofs.Packed.{packed_on, packed_bad}
+
+above : (a b : ℕ) → leb a b ≡ false → b < a
+above a b e = grind (arith, nat_tests, e)
+
+-- ---- zoned
+
+zoned_front : (n b : ℕ) (bs : List ℕ) → 0 < length bs → digits_then_sign n (zoned_halves (b ∷ bs)) ≡ elim (zoned_layout.digit b) [ None ↦ None | Some d ↦ digits_then_sign (n * 10 + d) (zoned_halves bs) ]
+zoned_front n b bs l = go (leb (b % 16) 9) refl
+  where
+    go : (t : Bool) → leb (b % 16) 9 ≡ t → digits_then_sign n (zoned_halves (b ∷ bs)) ≡ elim (cond t (Some (b % 16)) None) [ None ↦ None | Some d ↦ digits_then_sign (n * 10 + d) (zoned_halves bs) ]
+    go true e = zoned_on n b bs l (leb-true (b % 16) 9 e)
+    go false e = zoned_bad n b bs (above (b % 16) 9 e)
+
+zoned_small : (b : ℕ) → IfSome (zoned_layout.digit b) (λ d. d < 10)
+zoned_small b = go (leb (b % 16) 9) refl
+  where
+    go : (t : Bool) → leb (b % 16) 9 ≡ t → IfSome (cond t (Some (b % 16)) None) (λ d. d < 10)
+    go true e = let h = leb-true (b % 16) 9 e in omega arith
+    go false e = tt
+
+pub zoned_laid : LawfulDigitLayout zoned_layout
+zoned_laid = record {
+  base_reach = omega arith;
+  small = zoned_small;
+  empty = refl;
+  front = zoned_front;
+  end = λ b. refl;
+  one = λ s n. ap (λ q. (s * 16 + q % 10) ∷ []) (div-one n);
+  more = λ s k n. ap (λ q. (240 + q % 10) ∷ zoned_bytes s (digits 10 (suc k) n)) (sym (div-div-eq-div-mul n 10 (10 ^ k) ∙ ap (λ p. n / p) (omega (arith, pow-suc 10 k))));
+}
+
+-- ---- packed
+
+packed_front : (n b : ℕ) (bs : List ℕ) → 0 < length bs → digits_then_sign n (halves (b ∷ bs)) ≡ elim (packed_layout.digit b) [ None ↦ None | Some d ↦ digits_then_sign (n * 100 + d) (halves bs) ]
+packed_front n b bs l = go (leb (b / 16) 9) (leb (b % 16) 9) refl refl
+  where
+    go : (t u : Bool) → leb (b / 16) 9 ≡ t → leb (b % 16) 9 ≡ u → digits_then_sign n (halves (b ∷ bs)) ≡ elim (cond (t && u) (Some (b / 16 * 10 + b % 16)) None) [ None ↦ None | Some d ↦ digits_then_sign (n * 100 + d) (halves bs) ]
+    go true true e f = packed_on n b bs l (leb-true (b / 16) 9 e) (leb-true (b % 16) 9 f)
+    go true false e f = packed_bad n b bs l (inr (above (b % 16) 9 f))
+    go false u e f = packed_bad n b bs l (inl (above (b / 16) 9 e))
+
+packed_small : (b : ℕ) → IfSome (packed_layout.digit b) (λ d. d < 100)
+packed_small b = go (leb (b / 16) 9) (leb (b % 16) 9) refl refl
+  where
+    go : (t u : Bool) → leb (b / 16) 9 ≡ t → leb (b % 16) 9 ≡ u → IfSome (cond (t && u) (Some (b / 16 * 10 + b % 16)) None) (λ d. d < 100)
+    go true true e f =
+        let h = leb-true (b / 16) 9 e in
+        let k = leb-true (b % 16) 9 f in
+        omega arith
+    go true false e f = tt
+    go false u e f = tt
+
+hundreds : (k : ℕ) → 10 ^ (suc k * 2 - 1) ≡ 10 * 100 ^ k
+hundreds zero = omega arith
+hundreds (suc k) =
+    let e : suc (suc k) * 2 - 1 ≡ suc (suc (suc k * 2 - 1)) = omega arith in
+    rw e (omega (arith, pow-suc 10 (suc (suc k * 2 - 1)), pow-suc 10 (suc k * 2 - 1), pow-suc 100 k, hundreds k))
+
+-- two digits of a quotient by 10 and hundreds
+two_digits : (k n : ℕ) → n / 10 / 100 ^ k % 100 / 10 * 16 + n / 10 / 100 ^ k % 100 % 10 ≡ n / 10 ^ (suc k * 2) % 10 * 16 + n / 10 ^ (suc k * 2 - 1) % 10
+two_digits k n =
+    let low : n / 10 / 100 ^ k ≡ n / 10 ^ (suc k * 2 - 1) = div-div-eq-div-mul n 10 (100 ^ k) ∙ ap (λ p. n / p) (sym (hundreds k)) in
+    let e : suc (suc k * 2 - 1) ≡ suc k * 2 = omega arith in
+    let high : n / 10 / 100 ^ k / 10 ≡ n / 10 ^ (suc k * 2) = quotient_more 10 n (suc k * 2 - 1) (n / 10 / 100 ^ k) low ∙ ap (λ j. n / 10 ^ j) e in
+    omega (arith, low, high)
+
+packed_more : (s k n : ℕ) → packed_layout.image s (suc (suc k)) n ≡ packed_layout.byte (n / 10 / 100 ^ k % 100) ∷ packed_layout.image s (suc k) n
+packed_more s k n =
+    step (suc k * 2 - 1) (suc (suc k) * 2 - 1) (suc k * 2) (omega arith) (omega arith)
+    ∙ ap (λ b. b ∷ joined (digits 10 (suc k * 2 - 1) n ++ s ∷ [])) (sym (two_digits k n))
+  where
+    step : (j a b : ℕ) → a ≡ suc (suc j) → b ≡ suc j → joined (digits 10 a n ++ s ∷ []) ≡ (n / 10 ^ b % 10 * 16 + n / 10 ^ j % 10) ∷ joined (digits 10 j n ++ s ∷ [])
+    step j a b e f = rw (e, f)
+
+pub packed_laid : LawfulDigitLayout packed_layout
+packed_laid = record {
+  base_reach = omega arith;
+  small = packed_small;
+  empty = refl;
+  front = packed_front;
+  end = λ b. refl;
+  one = λ s n. ap (λ q. (q % 10 * 16 + s) ∷ []) (div-one n);
+  more = packed_more;
+}
+
+-- ---- a loop over the bytes before the last, and one from the last byte back
+
+module _ {l : DigitLayout} (laid : LawfulDigitLayout l) where
+  pub read_more : (front : List ℕ) (last i n d : ℕ) → i < length front → l.digit (get_or front i 0) ≡ Some d → digits_then_sign n (l.halves (drop i front ++ last ∷ [])) ≡ digits_then_sign (n * l.base + d) (l.halves (drop (i + 1) front ++ last ∷ []))
+  read_more front last i n d h e =
+      at_drop_more (λ ys. digits_then_sign n (l.halves (ys ++ last ∷ []))) front i 0 h
+      ∙ laid.front n (get_or front i 0) (drop (i + 1) front ++ last ∷ []) (simp length-append (omega arith))
+      ∙ ap (λ o. elim o [ None ↦ None | Some d ↦ digits_then_sign (n * l.base + d) (l.halves (drop (i + 1) front ++ last ∷ [])) ]) e
+
+  pub read_none : (front : List ℕ) (last i n : ℕ) → i < length front → l.digit (get_or front i 0) ≡ None → digits_then_sign n (l.halves (drop i front ++ last ∷ [])) ≡ None
+  read_none front last i n h e =
+      at_drop_more (λ ys. digits_then_sign n (l.halves (ys ++ last ∷ []))) front i 0 h
+      ∙ laid.front n (get_or front i 0) (drop (i + 1) front ++ last ∷ []) (simp length-append (omega arith))
+      ∙ ap (λ o. elim o [ None ↦ None | Some d ↦ digits_then_sign (n * l.base + d) (l.halves (drop (i + 1) front ++ last ∷ [])) ]) e
+
+  pub write_more : (s n w r : ℕ) → 0 < w → r ≡ n / 10 / l.base ^ (w - 1) → l.image s (suc w) n ≡ l.byte (r % l.base) ∷ l.image s w n
+  write_more s n zero r h e = absurd (omega arith)
+  write_more s n (suc k) r h e = let j : suc k - 1 ≡ k = omega arith in laid.more s k n ∙ ap (λ q. l.byte (q % l.base) ∷ l.image s (suc k) n) (sym (rw j at e))
+
+  pub rest_more : (n w r : ℕ) → 0 < w → r ≡ n / 10 / l.base ^ (w - 1) → r / l.base ≡ n / 10 / l.base ^ (suc w - 1)
+  rest_more n zero r h e = absurd (omega arith)
+  rest_more n (suc k) r h e =
+      let j : suc k - 1 ≡ k = omega arith in
+      let i : suc k ≡ suc (suc k) - 1 = omega arith in
+      quotient_more l.base (n / 10) k r (rw j at e) ∙ ap (λ w. n / 10 / l.base ^ w) i
