@@ -41,44 +41,44 @@ impl TryFrom<FormName> for Format {
     }
 }
 
-// A width, and the range of so many digits.
-fn decimal_shape(size: u8, width: usize) -> Shape
+// The lowest and the highest number of so many digits.
+fn decimal_range(size: u8) -> (i64, i64)
     requires some { 1 ≤ size }
     requires few { size ≤ 15 }
-    ensures width { result.width ≡ width }
-    ensures low { result.low ≡ negsuc (10 ^ size - 2) }
-    ensures high { result.high ≡ pos (10 ^ size - 1) }
+    ensures low { result.0 ≡ negsuc (10 ^ size - 2) }
+    ensures high { result.1 ≡ pos (10 ^ size - 1) }
 {
-    let high = 10i64.pow(u32::from(size)) - 1;
-    Shape {
-        width,
-        low: -high,
-        high,
-    }
+    let above = 10i64.pow(u32::from(size));
+    (1 - above, above - 1)
 }
 
 impl Format {
+    pub(crate) fn width(&self) -> usize
+        ensures { result ≡ (form_of self.now.kind self.now.size).width }
+    {
+        let size = usize::from(self.size);
+        match self.kind {
+            Kind::Packed => size / 2 + 1,
+            Kind::Zoned | Kind::Signed | Kind::Unsigned => size,
+        }
+    }
+
     pub(crate) fn shape(&self) -> Shape
         ensures { Some result ≡ shape_of (Some (form_of self.now.kind self.now.size)) }
     {
-        let size = self.size;
-        let width = usize::from(size);
-        match self.kind {
-            Kind::Zoned => decimal_shape(size, width),
-            Kind::Packed => decimal_shape(size, width / 2 + 1),
+        let size = u32::from(self.size);
+        let (low, high) = match self.kind {
+            Kind::Zoned | Kind::Packed => decimal_range(self.size),
             Kind::Signed => {
-                let half = 256i64.pow(u32::from(size)) / 2;
-                Shape {
-                    width,
-                    low: -half,
-                    high: half - 1,
-                }
+                let half = 256i64.pow(size) / 2;
+                (-half, half - 1)
             }
-            Kind::Unsigned => Shape {
-                width,
-                low: 0,
-                high: 256i64.pow(u32::from(size)) - 1,
-            },
+            Kind::Unsigned => (0, 256i64.pow(size) - 1),
+        };
+        Shape {
+            width: self.width(),
+            low,
+            high,
         }
     }
 

@@ -29,7 +29,7 @@ impl Bank for Shipped {
 
     fn read(&self, name: FormName, part: &[u8]) -> Result<i64, BankRefusal> {
         let format = Format::try_from(name)?;
-        if part.len() != format.shape().width {
+        if part.len() != format.width() {
             return Err(BankRefusal::WrongWidth);
         }
         format.value(part).ok_or(BankRefusal::NoValue)
@@ -37,11 +37,10 @@ impl Bank for Shipped {
 
     fn write(&self, name: FormName, number: i64, part: &mut [u8]) -> Result<(), BankRefusal> {
         let format = Format::try_from(name)?;
-        let shape = format.shape();
-        if part.len() != shape.width {
+        if part.len() != format.width() {
             return Err(BankRefusal::WrongWidth);
         }
-        if !shape.holds(number) {
+        if !format.shape().holds(number) {
             return Err(BankRefusal::OutOfRange);
         }
         format.put(number, part);

@@ -23,5 +23,5 @@ loop-i-preserved g c =
           (write_more laid s n (length xs - i) c.loop-i.rest some rest ∙ ap (λ b. b ∷ l.image s (length xs - i) n) (sym byte))
           c.loop-i.invariant.1,
       ap (λ b. c.loop-i.rest / b) (c.BASE-rest.ensures ∙ base) ∙ rest_more laid n (length xs - i) c.loop-i.rest some rest
-      ∙ ap (λ k. n / 10 / l.base ^ (k - 1)) (sym count) ∙ ap (λ b. n / 10 / b ^ (length (set xs (i - 1) c.byte.result) - (i - 1) - 1)) (sym base),
+          ∙ ap (λ k. n / 10 / l.base ^ (k - 1)) (sym count) ∙ ap (λ b. n / 10 / b ^ (length (set xs (i - 1) c.byte.result) - (i - 1) - 1)) (sym base),
     )

@@ -1,10 +1,10 @@
-use Rattle.std.proofs.Common.{◌≡◌, ◌^◌, refl, ap, arith}
+use Rattle.std.proofs.Common.{◌≡◌, ◌^◌, ap, arith}
 use Rattle.std.proofs.lemmas.Int.{ints}
 use Rattle.encodings.proofs.Decimal.{decimal_limits}
-use Rattle.forms.proofs.format.decimal_shape.Goals as goal
+use Rattle.forms.proofs.format.decimal_range.Goals as goal
 
-pub pow-high-requires : goal.pow-high-requires
-pow-high-requires c =
+pub pow-above-requires : goal.pow-above-requires
+pow-above-requires c =
     let lim = decimal_limits c.args.size c.requires.some c.requires.few in
     record { sfits = omega (arith, ap (λ k. 10 ^ k) c.from.ensures, lim) }
 
@@ -13,7 +13,6 @@ returns c =
     let lim = decimal_limits c.args.size c.requires.some c.requires.few in
     let e : 10 ^ c.from.result ≡ 10 ^ c.args.size = ap (λ k. 10 ^ k) c.from.ensures in
     record {
-      width = refl;
-      low = omega (arith, ints, c.pow-high.ensures, e);
-      high = omega (arith, ints, c.pow-high.ensures, e);
+      low = omega (arith, ints, c.pow-above.ensures, e);
+      high = omega (arith, ints, c.pow-above.ensures, e);
     }
