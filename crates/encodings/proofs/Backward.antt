@@ -1,22 +1,14 @@
--- Strings written from the last byte to the first: a loop's start and its step.
+-- Strings written from the last byte to the first: a loop's step.
 use Rattle.std.proofs.Common.{◌≡◌, ℕ, suc, ◌+◌, ◌-◌, ◌/◌, ◌^◌, ◌<◌, ◌≤◌, List, [], ◌∷◌, length, drop, set, sym, ap, ◌∙◌, pow-suc, arith, length-set}
 use native.Mathlib.Nat.{div-div-eq-div-mul}
 use Rattle.std.proofs.lemmas.List.{drop-set, drop_all}
 
--- how many bytes are written, after the last one and after the one before i
-pub count_start : (xs : List ℕ) (b : ℕ) → 0 < length xs → length (set xs (length xs - 1) b) - (length xs - 1) ≡ 1
-count_start xs b l = simp length-set (omega arith)
-
+-- how many bytes are written after the one before i
 pub count_more : (xs : List ℕ) (i b : ℕ) → 0 < i → i ≤ length xs → length (set xs (i - 1) b) - (i - 1) ≡ suc (length xs - i)
 count_more xs i b h l = simp length-set (omega arith)
 
 -- F k is what the last k bytes are to be
 module _ (F : ℕ → List ℕ) (xs : List ℕ) where
-  pub back_start : (b : ℕ) → 0 < length xs → F 1 ≡ b ∷ [] → drop (length xs - 1) (set xs (length xs - 1) b) ≡ F (length (set xs (length xs - 1) b) - (length xs - 1))
-  back_start b l f =
-      drop-set xs (length xs - 1) b (omega arith) ∙ ap (λ ys. b ∷ ys) (drop_all (length xs - 1 + 1) xs (omega arith))
-      ∙ sym (ap F (count_start xs b l) ∙ f)
-
   pub back_more : (i b : ℕ) → 0 < i → i ≤ length xs → F (suc (length xs - i)) ≡ b ∷ F (length xs - i) → drop i xs ≡ F (length xs - i) → drop (i - 1) (set xs (i - 1) b) ≡ F (length (set xs (i - 1) b) - (i - 1))
   back_more i b h l f d =
       let j : i - 1 + 1 ≡ i = omega arith in

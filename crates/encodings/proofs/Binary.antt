@@ -25,21 +25,6 @@ unsigned_back : (k : ℕ) (z : ℤ) → Within (unsigned k) z → 0 < 256 ^ k �
 unsigned_back k (pos n) w h = ap (λ m. Some (pos m)) (number_digits 256 k n (omega arith) (omega (arith, ints, w.below)))
 unsigned_back k (negsuc n) w h = absurd w.above.le
 
--- the number of 2 and of 4 bytes
-pub number_of_two : (xs : List ℕ) → length xs ≡ 2 → number_from_digits 256 xs ≡ get_or xs 0 0 * 256 + get_or xs 1 0
-number_of_two [] l = absurd (omega arith)
-number_of_two (a ∷ []) l = absurd (omega arith)
-number_of_two (a ∷ b ∷ []) l = omega arith
-number_of_two (a ∷ b ∷ c ∷ xs) l = absurd (omega arith)
-
-pub number_of_four : (xs : List ℕ) → length xs ≡ 4 → number_from_digits 256 xs ≡ (get_or xs 0 0 * 256 + get_or xs 1 0) * 65536 + (get_or xs 2 0 * 256 + get_or xs 3 0)
-number_of_four [] l = absurd (omega arith)
-number_of_four (a ∷ []) l = absurd (omega arith)
-number_of_four (a ∷ b ∷ []) l = absurd (omega arith)
-number_of_four (a ∷ b ∷ c ∷ []) l = absurd (omega arith)
-number_of_four (a ∷ b ∷ c ∷ d ∷ []) l = omega arith
-number_of_four (a ∷ b ∷ c ∷ d ∷ e ∷ xs) l = absurd (omega arith)
-
 pub unsigned_lawful : (k : ℕ) → 1 ≤ k → k ≤ 6 → LawfulForm (unsigned k)
 unsigned_lawful k some few =
     let lim = byte_limits k some few in

@@ -1,16 +1,17 @@
 -- Zoned and packed are lawful layouts, and what a loop over the bytes of any such layout keeps.
-use Rattle.std.proofs.Common.{◌≡◌, ℕ, zero, suc, ◌+◌, ◌-◌, ◌*◌, ◌/◌, ◌%◌, ◌^◌, ◌<◌, ◌≤◌, Bool, true, false, cond, ◌&&◌, leb, List, [], ◌∷◌, ◌++◌, length, get_or, drop, IfSome, Some, None, Option, sym, refl, ap, ◌∙◌, inl, inr, pow-suc, div-one, arith, length-append, length-drop, leb-true, mod-lt}
+use Rattle.std.proofs.Common.{◌≡◌, ℕ, zero, suc, ◌+◌, ◌-◌, ◌*◌, ◌/◌, ◌%◌, ◌^◌, ◌<◌, ◌≤◌, Bool, true, false, cond, ◌&&◌, leb, List, [], ◌∷◌, ◌++◌, length, ℤ, nat_abs, IfSome, Some, None, Option, sym, refl, ap, ◌∙◌, inl, inr, pow-suc, div-one, arith, length-append, length-drop, leb-true, mod-lt}
 use native.Mathlib.Nat.{div-div-eq-div-mul}
 use Rattle.std.proofs.lemmas.List.{at_drop_more}
 use Rattle.std.proofs.lemmas.Bool.{and_parts}
 use Rattle.std.proofs.lemmas.Bool.Decides.{nat_tests}
+use Rattle.bank.specs.Model.{Within}
 use Rattle.encodings.specs.Digits.{digits}
-use Rattle.encodings.specs.Decimal.{digits_then_sign, halves, joined, zoned_halves, zoned_bytes}
+use Rattle.encodings.specs.Decimal.{digits_then_sign, halves, joined, zoned_halves, zoned_bytes, packed, sign_of}
 use Rattle.encodings.specs.Layouts.{DigitLayout, LawfulDigitLayout, zoned_layout, packed_layout}
-use Rattle.encodings.proofs.Decimal.{digit_on, digit_bad}
+use Rattle.encodings.proofs.Decimal.{decimal_limits, size_in_range}
 use Rattle.encodings.proofs.Backward.{quotient_more}
 use Rattle.encodings.proofs.Zoned.{zoned_on, zoned_bad}
-use Rattle.encodings.proofs.Packed.{packed_on, packed_bad}
+use Rattle.encodings.proofs.Packed.{packed_on, packed_bad, image_at_width}
 
 above : (a b : ℕ) → leb a b ≡ false → b < a
 above a b e = grind (arith, nat_tests, e)
@@ -96,21 +97,9 @@ packed_laid = record {
   more = packed_more;
 }
 
--- ---- a loop over the bytes before the last, and one from the last byte back
+-- ---- a loop from the last byte back
 
 module _ {l : DigitLayout} (laid : LawfulDigitLayout l) where
-  pub read_more : (front : List ℕ) (last i n d : ℕ) → i < length front → l.digit (get_or front i 0) ≡ Some d → digits_then_sign n (l.halves (drop i front ++ last ∷ [])) ≡ digits_then_sign (n * l.base + d) (l.halves (drop (i + 1) front ++ last ∷ []))
-  read_more front last i n d h e =
-      at_drop_more (λ ys. digits_then_sign n (l.halves (ys ++ last ∷ []))) front i 0 h
-      ∙ laid.front n (get_or front i 0) (drop (i + 1) front ++ last ∷ []) (simp length-append (omega arith))
-      ∙ ap (λ o. elim o [ None ↦ None | Some d ↦ digits_then_sign (n * l.base + d) (l.halves (drop (i + 1) front ++ last ∷ [])) ]) e
-
-  pub read_none : (front : List ℕ) (last i n : ℕ) → i < length front → l.digit (get_or front i 0) ≡ None → digits_then_sign n (l.halves (drop i front ++ last ∷ [])) ≡ None
-  read_none front last i n h e =
-      at_drop_more (λ ys. digits_then_sign n (l.halves (ys ++ last ∷ []))) front i 0 h
-      ∙ laid.front n (get_or front i 0) (drop (i + 1) front ++ last ∷ []) (simp length-append (omega arith))
-      ∙ ap (λ o. elim o [ None ↦ None | Some d ↦ digits_then_sign (n * l.base + d) (l.halves (drop (i + 1) front ++ last ∷ [])) ]) e
-
   pub write_more : (s n w r : ℕ) → 0 < w → r ≡ n / 10 / l.base ^ (w - 1) → l.image s (suc w) n ≡ l.byte (r % l.base) ∷ l.image s w n
   write_more s n zero r h e = absurd (omega arith)
   write_more s n (suc k) r h e = let j : suc k - 1 ≡ k = omega arith in laid.more s k n ∙ ap (λ q. l.byte (q % l.base) ∷ l.image s (suc k) n) (sym (rw j at e))
@@ -121,3 +110,10 @@ module _ {l : DigitLayout} (laid : LawfulDigitLayout l) where
       let j : suc k - 1 ≡ k = omega arith in
       let i : suc k ≡ suc (suc k) - 1 = omega arith in
       quotient_more l.base (n / 10) k r (rw j at e) ∙ ap (λ w. n / 10 / l.base ^ w) i
+
+-- what is written for a number that the packed form holds is its image
+pub packed_written : (size len : ℕ) (z : ℤ) → 1 ≤ size → size ≤ 15 → len ≡ size / 2 + 1 → Within (packed size) z → packed_layout.image (sign_of z) len (nat_abs z) ≡ (packed size).image z
+packed_written size len z some few wide w =
+    let lim = decimal_limits size some few in
+    let small : nat_abs z < 10 ^ size = size_in_range (10 ^ size) z (omega arith) w.above w.below in
+    ap (λ k. packed_layout.image (sign_of z) k (nat_abs z)) wide ∙ sym (image_at_width size z small)

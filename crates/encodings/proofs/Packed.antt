@@ -10,11 +10,12 @@ use Rattle.std.proofs.lemmas.Bool.Decides.{nat_tests}
 use Rattle.bank.specs.Model.{LawfulForm, Bytes}
 use Rattle.encodings.specs.Digits.{digits}
 use Rattle.encodings.specs.Decimal.{with_sign, digits_then_sign, sign_of, even, halves, joined, spare, packed, packed_image, packed_value, past_spare}
+use Rattle.encodings.specs.Layouts.{packed_layout}
 use Rattle.encodings.proofs.Digits.{length_digits, under_digits, number_digits}
 use Rattle.encodings.proofs.Backward.{quotient_more}
 use Rattle.encodings.proofs.Decimal.{digit_on, digit_bad, digits_on, with_sign_of, sign_small, digits_size, decimal_lawful}
 
--- ---- reading: the spare half, a byte before the last, and the last
+-- ---- reading: the spare half, and a byte before the last
 
 pub packed_spare : (size : ℕ) (xs : List ℕ) → 0 < length xs → (even size && ltb 0 (get_or xs 0 0 / 16)) ≡ true → packed_value size xs ≡ None
 packed_spare size [] l e = absurd (omega arith)
@@ -40,70 +41,16 @@ packed_bad n b [] l h = absurd (omega arith)
 packed_bad n b (c ∷ bs) l (inl h) = digit_bad n (b / 16) (b % 16 ∷ halves (c ∷ bs)) (omega arith) h
 packed_bad n b (c ∷ bs) l (inr h) = grind (arith, nat_tests)
 
-pub packed_last : (n b : ℕ) → b / 16 ≤ 9 → digits_then_sign n (halves (b ∷ [])) ≡ with_sign (b % 16) (n * 10 + b / 16)
-packed_last n b h = digit_on n (b / 16) (b % 16 ∷ []) (omega arith) h
+-- ---- writing
 
-pub packed_last_bad : (n b : ℕ) → 9 < b / 16 → digits_then_sign n (halves (b ∷ [])) ≡ None
-packed_last_bad n b h = digit_bad n (b / 16) (b % 16 ∷ []) (omega arith) h
-
--- the same at a place of the string
-module _ (xs : List ℕ) (i n : ℕ) where
-  pub packed_at_on : i + 1 < length xs → get_or xs i 0 / 16 ≤ 9 → get_or xs i 0 % 16 ≤ 9 → digits_then_sign n (halves (drop i xs)) ≡ digits_then_sign (n * 100 + (get_or xs i 0 / 16 * 10 + get_or xs i 0 % 16)) (halves (drop (i + 1) xs))
-  packed_at_on l h k =
-      at_drop_more (λ ys. digits_then_sign n (halves ys)) xs i 0 (omega arith)
-      ∙ packed_on n (get_or xs i 0) (drop (i + 1) xs) (simp length-drop (omega arith)) h k
-
-  pub packed_at_bad : i + 1 < length xs → (9 < get_or xs i 0 / 16) ⊎ (9 < get_or xs i 0 % 16) → digits_then_sign n (halves (drop i xs)) ≡ None
-  packed_at_bad l h =
-      at_drop_more (λ ys. digits_then_sign n (halves ys)) xs i 0 (omega arith)
-      ∙ packed_bad n (get_or xs i 0) (drop (i + 1) xs) (simp length-drop (omega arith)) h
-
-  at_last : i + 1 ≡ length xs → digits_then_sign n (halves (drop i xs)) ≡ digits_then_sign n (halves (get_or xs i 0 ∷ []))
-  at_last l =
-      at_drop_more (λ ys. digits_then_sign n (halves ys)) xs i 0 (omega arith)
-      ∙ ap (λ ys. digits_then_sign n (halves (get_or xs i 0 ∷ ys))) (drop_all (i + 1) xs (omega arith))
-
-  pub packed_at_last : i + 1 ≡ length xs → get_or xs i 0 / 16 ≤ 9 → digits_then_sign n (halves (drop i xs)) ≡ with_sign (get_or xs i 0 % 16) (n * 10 + get_or xs i 0 / 16)
-  packed_at_last l h = at_last l ∙ packed_last n (get_or xs i 0) h
-
-  pub packed_at_last_bad : i + 1 ≡ length xs → 9 < get_or xs i 0 / 16 → digits_then_sign n (halves (drop i xs)) ≡ None
-  packed_at_last_bad l h = at_last l ∙ packed_last_bad n (get_or xs i 0) h
-
--- ---- writing: the last byte, one byte more in front, and all of them
-
--- the last w bytes of the image of a number with magnitude n and sign half s
-abbrev pub tail : ℕ → ℕ → ℕ → List ℕ
-tail s w n = joined (digits 10 (w * 2 - 1) n ++ s ∷ [])
-
-pub tail_one : (s n : ℕ) → tail s 1 n ≡ (n % 10 * 16 + s) ∷ []
-tail_one s n = rw (div-one n)
-
-tail_step : (s k a b n : ℕ) → a ≡ suc (suc k) → b ≡ suc k → joined (digits 10 a n ++ s ∷ []) ≡ (n / 10 ^ b % 10 * 16 + n / 10 ^ k % 10) ∷ joined (digits 10 k n ++ s ∷ [])
-tail_step s k a b n e f = rw (e, f)
-
-pub tail_more : (s w n : ℕ) → 0 < w → tail s (suc w) n ≡ (n / 10 ^ (w * 2) % 10 * 16 + n / 10 ^ (w * 2 - 1) % 10) ∷ tail s w n
-tail_more s w n h = tail_step s (w * 2 - 1) (suc w * 2 - 1) (w * 2) n (omega arith) (omega arith)
-
--- what is left of the magnitude when w bytes are written, and the byte made of it
-module _ (w m r : ℕ) (h : 0 < w) (e : r ≡ m / 10 ^ (w * 2 - 1)) where
-  rest_half : r / 10 ≡ m / 10 ^ (w * 2)
-  rest_half = let k : suc (w * 2 - 1) ≡ w * 2 = omega arith in quotient_more 10 m (w * 2 - 1) r e ∙ ap (λ k. m / 10 ^ k) k
-
-  pub rest_byte : r / 10 % 10 * 16 + r % 10 ≡ m / 10 ^ (w * 2) % 10 * 16 + m / 10 ^ (w * 2 - 1) % 10
-  rest_byte = cc (rest_half, e)
-
-  pub rest_more : r / 100 ≡ m / 10 ^ (suc w * 2 - 1)
-  rest_more =
-      let k : suc (w * 2) ≡ suc w * 2 - 1 = omega arith in
-      sym (div-div-eq-div-mul r 10 10) ∙ quotient_more 10 m (w * 2) (r / 10) rest_half ∙ ap (λ k. m / 10 ^ k) k
-
+-- an image written as the last bytes of a number of many digits: the spare half, if any, is a digit 0
 top_zero : (size n : ℕ) → n < 10 ^ size → digits 10 (suc size) n ≡ 0 ∷ digits 10 size n
 top_zero size n l = ap (λ q. (q % 10) ∷ digits 10 size n) (div-eq_of_lt l)
 
-pub tail_all : (size : ℕ) (z : ℤ) → nat_abs z < 10 ^ size → packed_image size z ≡ tail (sign_of z) (size / 2 + 1) (nat_abs z)
-tail_all size z h = go (even size) refl (sign_of z) (nat_abs z) h
+pub image_at_width : (size : ℕ) (z : ℤ) → nat_abs z < 10 ^ size → packed_image size z ≡ packed_layout.image (sign_of z) (size / 2 + 1) (nat_abs z)
+image_at_width size z h = go (even size) refl (sign_of z) (nat_abs z) h
   where
-    go : (t : Bool) → even size ≡ t → (s n : ℕ) → n < 10 ^ size → joined (cond t (0 ∷ []) [] ++ digits 10 size n ++ s ∷ []) ≡ tail s (size / 2 + 1) n
+    go : (t : Bool) → even size ≡ t → (s n : ℕ) → n < 10 ^ size → joined (cond t (0 ∷ []) [] ++ digits 10 size n ++ s ∷ []) ≡ packed_layout.image s (size / 2 + 1) n
     go true e s n l =
         let c : (size / 2 + 1) * 2 - 1 ≡ suc size = omega (arith, eqb-true (size % 2) 0 e) in
         rw c (ap (λ (ds : List ℕ). joined (ds ++ s ∷ [])) (sym (top_zero size n l)))

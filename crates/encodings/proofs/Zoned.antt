@@ -12,7 +12,7 @@ halves_some : (b : ℕ) (bs : List ℕ) → 0 < length (zoned_halves (b ∷ bs))
 halves_some b [] = omega arith
 halves_some b (c ∷ bs) = omega arith
 
--- ---- reading: a byte before the last, and the last
+-- ---- reading: a byte before the last
 
 pub zoned_on : (n b : ℕ) (bs : List ℕ) → 0 < length bs → b % 16 ≤ 9 → digits_then_sign n (zoned_halves (b ∷ bs)) ≡ digits_then_sign (n * 10 + b % 16) (zoned_halves bs)
 zoned_on n b [] l h = absurd (omega arith)
@@ -21,30 +21,6 @@ zoned_on n b (c ∷ bs) l h = digit_on n (b % 16) (zoned_halves (c ∷ bs)) (hal
 pub zoned_bad : (n b : ℕ) (bs : List ℕ) → 9 < b % 16 → digits_then_sign n (zoned_halves (b ∷ bs)) ≡ None
 zoned_bad n b [] h = digit_bad n (b % 16) (b / 16 ∷ []) (omega arith) h
 zoned_bad n b (c ∷ bs) h = digit_bad n (b % 16) (zoned_halves (c ∷ bs)) (halves_some c bs) h
-
-pub zoned_last : (n b : ℕ) → b % 16 ≤ 9 → digits_then_sign n (zoned_halves (b ∷ [])) ≡ with_sign (b / 16) (n * 10 + b % 16)
-zoned_last n b h = digit_on n (b % 16) (b / 16 ∷ []) (omega arith) h
-
--- the same at a place of the string
-module _ (xs : List ℕ) (i n : ℕ) where
-  pub zoned_at_on : i + 1 < length xs → get_or xs i 0 % 16 ≤ 9 → digits_then_sign n (zoned_halves (drop i xs)) ≡ digits_then_sign (n * 10 + get_or xs i 0 % 16) (zoned_halves (drop (i + 1) xs))
-  zoned_at_on l h =
-      at_drop_more (λ ys. digits_then_sign n (zoned_halves ys)) xs i 0 (omega arith)
-      ∙ zoned_on n (get_or xs i 0) (drop (i + 1) xs) (simp length-drop (omega arith)) h
-
-  pub zoned_at_bad : i < length xs → 9 < get_or xs i 0 % 16 → digits_then_sign n (zoned_halves (drop i xs)) ≡ None
-  zoned_at_bad l h = at_drop_more (λ ys. digits_then_sign n (zoned_halves ys)) xs i 0 l ∙ zoned_bad n (get_or xs i 0) (drop (i + 1) xs) h
-
-  pub zoned_at_last : i + 1 ≡ length xs → get_or xs i 0 % 16 ≤ 9 → digits_then_sign n (zoned_halves (drop i xs)) ≡ with_sign (get_or xs i 0 / 16) (n * 10 + get_or xs i 0 % 16)
-  zoned_at_last l h =
-      at_drop_more (λ ys. digits_then_sign n (zoned_halves ys)) xs i 0 (omega arith)
-      ∙ ap (λ ys. digits_then_sign n (zoned_halves (get_or xs i 0 ∷ ys))) (drop_all (i + 1) xs (omega arith)) ∙ zoned_last n (get_or xs i 0) h
-
--- ---- writing: one byte more in front
-
-pub zoned_more : (s k n : ℕ) → 0 < k → zoned_bytes s (digits 10 (suc k) n) ≡ (240 + n / 10 ^ k % 10) ∷ zoned_bytes s (digits 10 k n)
-zoned_more s zero n h = absurd (omega arith)
-zoned_more s (suc k) n h = refl
 
 -- ---- what the form owes
 
