@@ -1,7 +1,7 @@
 -- Strings written from the last byte to the first: a loop's step.
-use Rattle.std.proofs.Common.{◌≡◌, ℕ, suc, ◌+◌, ◌-◌, ◌/◌, ◌^◌, ◌<◌, ◌≤◌, List, [], ◌∷◌, length, drop, set, sym, ap, ◌∙◌, pow-suc, arith, length-set}
+use Rattle.std.proofs.Common.{◌≡◌, ℕ, suc, ◌+◌, ◌-◌, ◌/◌, ◌^◌, ◌<◌, ◌≤◌, List, ◌∷◌, length, drop, set, sym, ap, ◌∙◌, pow-suc, arith, length-set}
 use native.Mathlib.Nat.{div-div-eq-div-mul}
-use Rattle.std.proofs.lemmas.List.{drop-set, drop_all}
+use Rattle.std.proofs.lemmas.List.{drop-set}
 
 -- how many bytes are written after the one before i
 pub count_more : (xs : List ℕ) (i b : ℕ) → 0 < i → i ≤ length xs → length (set xs (i - 1) b) - (i - 1) ≡ suc (length xs - i)

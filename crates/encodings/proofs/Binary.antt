@@ -1,5 +1,5 @@
 -- What the binary forms owe, at 2 and at 4 bytes.
-use Rattle.std.proofs.Common.{◌≡◌, ℕ, zero, suc, ◌+◌, ◌-◌, ◌*◌, ◌/◌, ◌%◌, ◌^◌, ◌<◌, ◌≤◌, Bool, true, false, cond, ◌||◌, eqb, ltb, List, [], ◌∷◌, length, get_or, drop, ℤ, pos, negsuc, nat_abs, Some, refl, sym, ap, ◌∙◌, mul_assoc, mul_comm, pow-suc, div-one, w64, of_z, ⊎_elim, eqb-true, arith, ltb-false, ltb-true, le-ltb, lt-ltb}
+use Rattle.std.proofs.Common.{◌≡◌, ℕ, zero, suc, ◌+◌, ◌-◌, ◌*◌, ◌/◌, ◌%◌, ◌^◌, ◌<◌, ◌≤◌, Bool, true, false, cond, ◌||◌, eqb, ltb, List, [], ◌∷◌, length, drop, ℤ, pos, negsuc, nat_abs, Some, refl, sym, ap, ◌∙◌, mul_assoc, mul_comm, pow-suc, div-one, w64, of_z, ⊎_elim, eqb-true, arith, ltb-false, ltb-true, le-ltb, lt-ltb}
 use native.Mathlib.Nat.{one-le-pow, pow-le-pow_right}
 use Rattle.std.proofs.Math.Nat.{add-mul-div_right}
 use Rattle.std.specs.Int.{bytes_high_first}

@@ -1,8 +1,7 @@
 -- Laws of the packed form: a loop's step for reading and for writing, and what it owes as a form.
-use Rattle.std.proofs.Common.{◌≡◌, ℕ, suc, ◌+◌, ◌-◌, ◌*◌, ◌/◌, ◌%◌, ◌^◌, ◌<◌, ◌≤◌, Bool, true, false, cond, ◌&&◌, eqb, ltb, ◌⊎◌, List, [], ◌∷◌, ◌++◌, length, get_or, drop, ℤ, nat_abs, IfSome, Some, None, sym, refl, ap, ◌∙◌, inl, inr, div-one, arith, length-append, length-drop, ltb-false, eqb-true}
-use native.Mathlib.Nat.{div-eq_of_lt, div-div-eq-div-mul}
+use Rattle.std.proofs.Common.{◌≡◌, ℕ, suc, ◌+◌, ◌-◌, ◌*◌, ◌/◌, ◌%◌, ◌^◌, ◌<◌, ◌≤◌, Bool, true, false, cond, ◌&&◌, eqb, ltb, ◌⊎◌, List, [], ◌∷◌, ◌++◌, length, get_or, ℤ, nat_abs, IfSome, Some, None, sym, refl, ap, ◌∙◌, inl, inr, arith, length-append, ltb-false, eqb-true}
+use native.Mathlib.Nat.{div-eq_of_lt}
 use borrow.Author.Tests.{eqb-false}
-use Rattle.std.proofs.lemmas.List.{at_drop_more, drop_all}
 use Rattle.std.specs.Int.Digits.{AllBelowBase}
 use Rattle.std.proofs.ByRecursion.{All-append, All-weaker}
 use Rattle.std.proofs.lemmas.Bool.{and_parts}
@@ -12,7 +11,6 @@ use Rattle.encodings.specs.Digits.{digits}
 use Rattle.encodings.specs.Decimal.{with_sign, digits_then_sign, sign_of, even, halves, joined, spare, packed, packed_image, packed_value, past_spare}
 use Rattle.encodings.specs.Layouts.{packed_layout}
 use Rattle.encodings.proofs.Digits.{length_digits, under_digits, number_digits}
-use Rattle.encodings.proofs.Backward.{quotient_more}
 use Rattle.encodings.proofs.Decimal.{digit_on, digit_bad, digits_on, with_sign_of, sign_small, digits_size, decimal_lawful}
 
 -- ---- reading: the spare half, and a byte before the last

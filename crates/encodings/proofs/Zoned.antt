@@ -1,10 +1,9 @@
 -- Laws of the zoned form: a loop's step for reading and for writing, and what it owes as a form.
-use Rattle.std.proofs.Common.{◌≡◌, ℕ, zero, suc, ◌+◌, ◌*◌, ◌/◌, ◌%◌, ◌^◌, ◌<◌, ◌≤◌, List, [], ◌∷◌, ◌++◌, length, get_or, drop, ℤ, nat_abs, Some, None, refl, ap, ◌∙◌, arith, length-drop}
-use Rattle.std.proofs.lemmas.List.{at_drop_more, drop_all}
+use Rattle.std.proofs.Common.{◌≡◌, ℕ, suc, ◌+◌, ◌*◌, ◌/◌, ◌%◌, ◌^◌, ◌<◌, ◌≤◌, List, [], ◌∷◌, ◌++◌, length, ℤ, nat_abs, Some, None, refl, ap, ◌∙◌, arith}
 use Rattle.std.specs.Int.Digits.{AllBelowBase}
 use Rattle.bank.specs.Model.{LawfulForm, Bytes}
 use Rattle.encodings.specs.Digits.{digits}
-use Rattle.encodings.specs.Decimal.{with_sign, digits_then_sign, sign_of, zoned, zoned_halves, zoned_bytes, zoned_image, zoned_value}
+use Rattle.encodings.specs.Decimal.{digits_then_sign, sign_of, zoned, zoned_halves, zoned_bytes, zoned_image, zoned_value}
 use Rattle.encodings.proofs.Digits.{length_digits, under_digits, number_digits}
 use Rattle.encodings.proofs.Decimal.{digit_on, digit_bad, digits_on, with_sign_of, digits_size, decimal_lawful, sign_small}
 

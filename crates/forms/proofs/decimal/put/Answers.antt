@@ -1,4 +1,4 @@
-use Rattle.std.proofs.Common.{◌≡◌, ◌-◌, ◌/◌, ◌%◌, ◌^◌, ◌<◌, ◌∷◌, length, drop, set, sym, ap, ◌∙◌, arith, length-set, to_z, of_z, w64}
+use Rattle.std.proofs.Common.{◌≡◌, ◌-◌, ◌/◌, ◌%◌, ◌^◌, ◌<◌, ◌∷◌, length, set, sym, ap, ◌∙◌, arith, length-set, to_z, of_z, w64}
 use Rattle.encodings.specs.Decimal.{sign_of}
 use Rattle.encodings.proofs.Backward.{count_more, back_more}
 use Rattle.encodings.proofs.Layouts.{write_more, rest_more}

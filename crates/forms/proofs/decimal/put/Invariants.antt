@@ -1,4 +1,4 @@
-use Rattle.std.proofs.Common.{◌≡◌, ◌-◌, ◌/◌, ◌^◌, ◌<◌, length, drop, unsigned_abs}
+use Rattle.std.proofs.Common.{◌≡◌, ◌-◌, ◌/◌, ◌^◌, ◌<◌, length, drop}
 use Rattle.encodings.specs.Decimal.{sign_of}
 use Rattle.forms.proofs.decimal.put.Given as goal
 

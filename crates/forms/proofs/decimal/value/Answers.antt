@@ -1,4 +1,4 @@
-use Rattle.std.proofs.Common.{◌≡◌, ◌+◌, ◌*◌, ◌<◌, ◌^◌, length, sym, arith, rules, IfSome, Some}
+use Rattle.std.proofs.Common.{◌<◌, length, arith, rules}
 use Rattle.encodings.proofs.Digits.{room}
 use Rattle.forms.proofs.decimal.value.Goals as goal
 

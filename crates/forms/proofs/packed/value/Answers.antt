@@ -1,7 +1,7 @@
-use Rattle.std.proofs.Common.{◌≡◌, ◌<◌, ◌/◌, ◌&&◌, Bool, ltb, get_or, length, sym, ap, ◌∙◌, arith}
+use Rattle.std.proofs.Common.{◌≡◌, ◌/◌, ◌&&◌, ltb, get_or, sym, ap, ◌∙◌, arith}
 use native.Mathlib.Nat.{pow-le-pow_right}
 use Rattle.encodings.specs.Decimal.{even}
-use Rattle.encodings.proofs.Packed.{packed_spare, packed_start}
+use Rattle.encodings.proofs.Packed.{packed_start}
 use Rattle.forms.proofs.packed.value.Goals as goal
 
 pub value-requires : goal.value-requires

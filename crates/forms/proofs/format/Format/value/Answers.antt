@@ -1,4 +1,4 @@
-use Rattle.std.proofs.Common.{◌^◌, ◌≤◌, length, arith, rules}
+use Rattle.std.proofs.Common.{rules}
 use native.Mathlib.Nat.{pow-le-pow_right}
 use Rattle.encodings.proofs.Shipped.{decimal_sizes}
 use Rattle.forms.proofs.format.Format.value.Goals as goal
