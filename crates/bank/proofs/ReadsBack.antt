@@ -16,10 +16,10 @@ image_reads : (f : Form) → LawfulForm f → (n : ℤ) → Within f n → read_
 image_reads f l n w = rw (eq-eqb (length (f.image n)) f.width (l.long n w), l.back n w)
 
 pub reads_back : ReadsBack
-reads_back None l n before after e = let z : ◌≡◌ {A = ℕ} 0 1 = cc in absurd (omega arith)
+reads_back None l n before after e = cc
 reads_back (Some f) l n before after e = go (eqb (length before) f.width) (le_z f.low n && le_z n f.high) refl e
   where
     go : (wide inside : Bool) → (le_z f.low n && le_z n f.high) ≡ inside → cond wide (cond inside (Ok (f.image n)) (Err OutOfRange)) (Err WrongWidth) ≡ Ok after → read_by (Some f) after ≡ Ok n
     go true true h e = let a : f.image n ≡ after = cc in rw a at (image_reads f l n (within_from_test f n h))
-    go true false h e = let z : ◌≡◌ {A = ℕ} 0 1 = cc in absurd (omega arith)
-    go false inside h e = let z : ◌≡◌ {A = ℕ} 0 1 = cc in absurd (omega arith)
+    go true false h e = cc
+    go false inside h e = cc

@@ -4,6 +4,7 @@ use native.Mathlib.Nat.{pow-zero, pow-le-pow_right}
 use Rattle.std.specs.Int.Digits.{number_from_digits_after, AllBelowBase}
 use Rattle.std.proofs.lemmas.Nat.{mul-le}
 use Rattle.std.proofs.lemmas.Int.{ints}
+use Rattle.std.proofs.lemmas.Option.{IfSome_then}
 use Rattle.bank.specs.Model.{Within, LawfulForm, Bytes}
 use Rattle.encodings.specs.Decimal.{with_sign, digits_then_sign, sign_of, decimal}
 
@@ -47,13 +48,9 @@ signed_size s n = go (ltb s 10) (eqb s 11 || eqb s 13) n
 grow : (n d p : ℕ) → d ≤ 9 → (n * 10 + d + 1) * p ≤ (n + 1) * (p * 10)
 grow n d p h = omega (arith, mul-le (n * 10 + d + 1) p ((n + 1) * 10) p (omega arith) (omega arith), mul_assoc (n + 1) 10 p, mul_comm 10 p)
 
-pub cases_weaker : {A : Type 0} {P Q : A → Type 0} → ((x : A) → P x → Q x) → (o : Option A) → IfSome o P → IfSome o Q
-cases_weaker f None h = tt
-cases_weaker f (Some x) h = f x h
-
 pub digits_size : (k n : ℕ) (hs : List ℕ) → length hs ≡ suc k → IfSome (digits_then_sign n hs) (λ z. nat_abs z < (n + 1) * 10 ^ k)
 digits_size k n [] l = tt
-digits_size zero n (s ∷ []) l = cases_weaker (λ z e. rw (pow-zero 10, mul-one (n + 1)) (omega arith)) (with_sign s n) (signed_size s n)
+digits_size zero n (s ∷ []) l = IfSome_then (with_sign s n) (signed_size s n) (λ z e. rw (pow-zero 10, mul-one (n + 1)) (omega arith))
 digits_size (suc k) n (s ∷ []) l = absurd (omega arith)
 digits_size zero n (d ∷ h ∷ hs) l = absurd (omega arith)
 digits_size (suc k) n (d ∷ h ∷ hs) l = go (leb d 9) refl (digits_size k (n * 10 + d) (h ∷ hs) (omega arith))
@@ -61,7 +58,7 @@ digits_size (suc k) n (d ∷ h ∷ hs) l = go (leb d 9) refl (digits_size k (n *
     go : (t : Bool) → leb d 9 ≡ t → IfSome (digits_then_sign (n * 10 + d) (h ∷ hs)) (λ z. nat_abs z < (n * 10 + d + 1) * 10 ^ k) → IfSome (cond t (digits_then_sign (n * 10 + d) (h ∷ hs)) None) (λ z. nat_abs z < (n + 1) * 10 ^ suc k)
     go false e b = tt
     go true e b =
-        cases_weaker (λ z c. rw (pow-suc 10 k) (omega (arith, c, grow n d (10 ^ k) (leb-true d 9 e)))) (digits_then_sign (n * 10 + d) (h ∷ hs)) b
+        IfSome_then (digits_then_sign (n * 10 + d) (h ∷ hs)) b (λ z c. rw (pow-suc 10 k) (omega (arith, c, grow n d (10 ^ k) (leb-true d 9 e))))
 
 -- ---- the range of a decimal form, p being 10 to its size
 
@@ -97,7 +94,7 @@ module _ (size width : ℕ) (value : List ℕ → Option ℤ) (image : ℤ → L
         high_reach = omega (arith, ints);
         low_bound = omega (arith, ints);
         high_bound = omega (arith, ints);
-        held = λ bs _ l. cases_weaker size_within (value bs) (held bs l);
+        held = λ bs _ l. IfSome_then (value bs) (held bs l) size_within;
         long = λ z _. long z;
         bytes = λ z _. bytes z;
         back = λ z w. back z (within_size z w);

@@ -1,5 +1,5 @@
 -- Zoned and packed are lawful layouts, and what a loop over the bytes of any such layout keeps.
-use Rattle.std.proofs.Common.{◌≡◌, ℕ, zero, suc, ◌+◌, ◌-◌, ◌*◌, ◌/◌, ◌%◌, ◌^◌, ◌<◌, ◌≤◌, Bool, true, false, cond, ◌&&◌, leb, List, [], ◌∷◌, ◌++◌, length, ℤ, nat_abs, IfSome, Some, None, sym, refl, ap, ◌∙◌, inl, inr, pow-suc, div-one, arith, leb-true}
+use Rattle.std.proofs.Common.{◌≡◌, ℕ, zero, suc, ◌+◌, ◌-◌, ◌*◌, ◌/◌, ◌%◌, ◌^◌, ◌<◌, ◌≤◌, Bool, true, false, cond, ◌&&◌, leb, List, [], ◌∷◌, ◌++◌, length, ℤ, nat_abs, IfSome, Some, None, sym, refl, ap, ◌∙◌, inl, inr, pow-suc, div-one, arith, leb-true, leb-false}
 use native.Mathlib.Nat.{div-div-eq-div-mul}
 use Rattle.std.proofs.lemmas.Bool.Decides.{nat_tests}
 use Rattle.bank.specs.Model.{Within}
@@ -11,9 +11,6 @@ use Rattle.encodings.proofs.Backward.{quotient_more}
 use Rattle.encodings.proofs.Zoned.{zoned_on, zoned_bad}
 use Rattle.encodings.proofs.Packed.{packed_on, packed_bad, image_at_width}
 
-above : (a b : ℕ) → leb a b ≡ false → b < a
-above a b e = grind (arith, nat_tests, e)
-
 -- ---- zoned
 
 zoned_front : (n b : ℕ) (bs : List ℕ) → 0 < length bs → digits_then_sign n (zoned_halves (b ∷ bs)) ≡ elim (zoned_layout.digit b) [ None ↦ None | Some d ↦ digits_then_sign (n * 10 + d) (zoned_halves bs) ]
@@ -21,7 +18,7 @@ zoned_front n b bs l = go (leb (b % 16) 9) refl
   where
     go : (t : Bool) → leb (b % 16) 9 ≡ t → digits_then_sign n (zoned_halves (b ∷ bs)) ≡ elim (cond t (Some (b % 16)) None) [ None ↦ None | Some d ↦ digits_then_sign (n * 10 + d) (zoned_halves bs) ]
     go true e = zoned_on n b bs l (leb-true (b % 16) 9 e)
-    go false e = zoned_bad n b bs (above (b % 16) 9 e)
+    go false e = zoned_bad n b bs (leb-false (b % 16) 9 e)
 
 zoned_small : (b : ℕ) → IfSome (zoned_layout.digit b) (λ d. d < 10)
 zoned_small b = go (leb (b % 16) 9) refl
@@ -48,8 +45,8 @@ packed_front n b bs l = go (leb (b / 16) 9) (leb (b % 16) 9) refl refl
   where
     go : (t u : Bool) → leb (b / 16) 9 ≡ t → leb (b % 16) 9 ≡ u → digits_then_sign n (halves (b ∷ bs)) ≡ elim (cond (t && u) (Some (b / 16 * 10 + b % 16)) None) [ None ↦ None | Some d ↦ digits_then_sign (n * 100 + d) (halves bs) ]
     go true true e f = packed_on n b bs l (leb-true (b / 16) 9 e) (leb-true (b % 16) 9 f)
-    go true false e f = packed_bad n b bs l (inr (above (b % 16) 9 f))
-    go false u e f = packed_bad n b bs l (inl (above (b / 16) 9 e))
+    go true false e f = packed_bad n b bs l (inr (leb-false (b % 16) 9 f))
+    go false u e f = packed_bad n b bs l (inl (leb-false (b / 16) 9 e))
 
 packed_small : (b : ℕ) → IfSome (packed_layout.digit b) (λ d. d < 100)
 packed_small b = go (leb (b / 16) 9) (leb (b % 16) 9) refl refl
