@@ -6,6 +6,7 @@ ghost use Rattle.account.specs.Account.{field_number, account_text};
 ghost use Rattle.account.specs.Weighing.{Tells};
 
 use bank::Bank;
+use figures::Line;
 use std::alloc::{AllocError, Global};
 
 // A number in a ticket: its form by letter and size, its decimal places, and where its bytes stand.
@@ -73,9 +74,13 @@ pub fn account<B: Bank>(heap: Global, bank: &B, ticket: &[u8]) -> Result<String,
     }
     let mut text = String::new(heap);
     for (i, field) in LAYOUT.iter().enumerate() {
-        let number = read_field(bank, ticket, field);
-        let line = figures::line(heap, i as u8, None, number, field.places)?;
-        text.push_str(line.as_str())?;
+        let line = Line {
+            field: i as u8,
+            row: None,
+            number: read_field(bank, ticket, field),
+            places: field.places,
+        };
+        text.push_str(line.to_text(heap)?.as_str())?;
     }
     Ok(text)
 }

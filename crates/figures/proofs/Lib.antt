@@ -1,1 +1,3 @@
+pub mod Decimal
+pub mod Padded
 pub mod ReadsBack

@@ -1,99 +1,103 @@
 // The bytes of one output line of numbers.
 #![tactic(auto)]
 
-ghost use Rattle.std.specs.Prelude.{◌≡◌, ◌/◌, ◌^◌, ◌++◌, IfOk, string_bytes};
-ghost use Rattle.encodings.specs.Digits.{digits};
-ghost use Rattle.figures.specs.Line.{digit_text, magnitude_text, number_text, value_text, row_text, line_with, line_bytes};
-ghost use Rattle.figures.specs.Reading.{Shows, LineShows};
+ghost use Rattle.std.specs.Prelude.{◌≡◌, ◌/◌, ◌%◌, ◌^◌, IfOk, Some, string_bytes};
+ghost use Rattle.std.specs.Option.{option_map_or};
+ghost use Rattle.figures.specs.Line.{number_text, line_bytes};
+ghost use Rattle.figures.specs.Reading.{LineShows};
 
 use std::alloc::{AllocError, Global};
+use std::fmt;
 
-// `n` without its lowest digits, as many as `places`.
-fn whole(n: u64, places: u8) -> u64
-    ensures { result ≡ n / 10 ^ places }
+/// A number with decimal places, in units of the last one: 6.85 is 685 units at 2 places.
+#[derive(Clone, Copy, Debug, PartialEq, Eq)]
+pub struct Figure {
+    pub units: i64,
+    pub places: u8,
+}
+
+// What stands before the point of `n` with `places` places, and after it.
+#[tactic(auto, using(crate::proofs::Padded::power_positive))]
+fn split_at_point(n: u64, places: u8) -> (u64, u64)
+    ensures whole { result.0 ≡ n / 10 ^ places }
+    ensures fraction { result.1 ≡ n % 10 ^ places }
 {
     match 10u64.checked_pow(u32::from(places)) {
-        Some(power) => n / power,
+        Some(power) => (n / power, n % power),
         // the power is above every u64
-        None => 0,
+        None => (0, n),
     }
 }
 
-// The lowest digits of `n`, as many as `places`, zeros too.
-fn fraction(heap: Global, n: u64, places: u8) -> Result<String, AllocError>
-    ensures { IfOk result (λ s. string_bytes s ≡ digit_text (digits 10 places n)) }
-{
-    let mut text = String::new(heap);
-    for place in (0..places).rev() {
-        let digit = (whole(n, place) % 10) as u8;
-        text.push((b'0' + digit) as char)?;
-    }
-    Ok(text)
-}
+impl fmt::Display for Figure {
+    ghost output = { λ x. Some (number_text x.places x.units) };
 
-fn magnitude(heap: Global, n: u64, places: u8) -> Result<String, AllocError>
-    ensures { IfOk result (λ s. string_bytes s ≡ magnitude_text places n) }
-{
-    if places == 0 {
-        return format!(in heap; "{n}");
-    }
-    let above = whole(n, places);
-    let below = fraction(heap, n, places)?;
-    format!(in heap; "{above}.{below}")
-}
-
-// A sign and what stands after it.
-fn signed(heap: Global, sign: &str, size: &str) -> Result<String, AllocError>
-    ensures { IfOk result (λ s. string_bytes s ≡ sign.now ++ size.now) }
-{
-    format!(in heap; "{sign}{size}")
-}
-
-fn figure(heap: Global, number: i64, places: u8) -> Result<String, AllocError>
-    ensures { IfOk result (λ s. string_bytes s ≡ number_text places number) }
-{
-    let sign = if number < 0 { "-" } else { "" };
-    let size = magnitude(heap, number.unsigned_abs(), places)?;
-    signed(heap, sign, size.as_str())
-}
-
-fn value(heap: Global, number: Option<i64>, places: u8) -> Result<String, AllocError>
-    ensures bytes { IfOk result (λ s. string_bytes s ≡ value_text places number) }
-    ensures reads { IfOk result (λ s. Shows places number (string_bytes s)) }
-{
-    match number {
-        Some(n) => figure(heap, n, places),
-        None => String::from_str(heap, "?"),
+    #[tactic(auto, using(crate::proofs::Padded::magnitude_padded))]
+    fn fmt<W: fmt::Write>(&self, f: &mut fmt::Formatter<W>) -> fmt::Result {
+        let sign = if self.units < 0 { "-" } else { "" };
+        let units = self.units.unsigned_abs();
+        if self.places == 0 {
+            return write!(f, "{sign}{units}");
+        }
+        let (whole, fraction) = split_at_point(units, self.places);
+        let places = usize::from(self.places);
+        write!(f, "{sign}{whole}.{fraction:0places$}")
     }
 }
 
-fn row_name(heap: Global, row: Option<u8>) -> Result<String, AllocError>
-    ensures { IfOk result (λ s. string_bytes s ≡ row_text row) }
-{
-    match row {
-        Some(r) => format!(in heap; "{r}"),
-        None => String::from_str(heap, "-"),
+// A value, or the mark that stands for none.
+#[derive(Clone, Copy)]
+struct OrMark<T> {
+    value: Option<T>,
+    mark: &'static str,
+}
+
+impl<T: fmt::Display> fmt::Display for OrMark<T> {
+    ghost output = { λ x. option_map_or T.output x.value (Some x.mark.now) };
+
+    fn fmt<W: fmt::Write>(&self, f: &mut fmt::Formatter<W>) -> fmt::Result {
+        match &self.value {
+            Some(value) => value.fmt(f),
+            None => f.write_str(self.mark),
+        }
     }
 }
 
-fn joined(heap: Global, field: u8, row: &str, value: &str) -> Result<String, AllocError>
-    ensures { IfOk result (λ s. string_bytes s ≡ line_with field row.now value.now) }
-{
-    format!(in heap; "{field} {row} {value}\n")
+/// A field's line: its number with these places, or `?` for none, after its row, or `-` for none.
+#[derive(Clone, Copy, Debug, PartialEq, Eq)]
+pub struct Line {
+    pub field: u8,
+    pub row: Option<u8>,
+    pub number: Option<i64>,
+    pub places: u8,
 }
 
-// A field's line; `?` stands for a number that is not there, `-` for a row.
-pub fn line(
-    heap: Global,
-    field: u8,
-    row: Option<u8>,
-    number: Option<i64>,
-    places: u8,
-) -> Result<String, AllocError>
-    ensures bytes { IfOk result (λ s. string_bytes s ≡ line_bytes field row number places) }
-    ensures reads { IfOk result (λ s. LineShows field row number places (string_bytes s)) }
-{
-    let row = row_name(heap, row)?;
-    let value = value(heap, number, places)?;
-    joined(heap, field, row.as_str(), value.as_str())
+impl fmt::Display for Line {
+    ghost output = { λ x. Some (line_bytes x.field x.row x.number x.places) };
+
+    fn fmt<W: fmt::Write>(&self, f: &mut fmt::Formatter<W>) -> fmt::Result {
+        let Line { field, places, .. } = *self;
+        let row = OrMark {
+            value: self.row,
+            mark: "-",
+        };
+        let number = OrMark {
+            value: self.number.map(|units| Figure { units, places }),
+            mark: "?",
+        };
+        writeln!(f, "{field} {row} {number}")
+    }
+}
+
+impl Line {
+    /// The line as `to_string` gives it, with what a reader finds there.
+    #[tactic(auto, using(crate::proofs::ReadsBack::line_shows))]
+    pub fn to_text(self, heap: Global) -> Result<String, AllocError>
+        ensures bytes { IfOk result
+            (λ s. string_bytes s ≡ line_bytes self.field self.row self.number self.places) }
+        ensures reads { IfOk result
+            (λ s. LineShows self.field self.row self.number self.places (string_bytes s)) }
+    {
+        self.to_string(heap)
+    }
 }
