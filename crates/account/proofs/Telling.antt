@@ -12,7 +12,7 @@ use Rattle.account.specs.Weighing.{Weighing, Written, TicketOf, weighing_lines, 
 module _ {forms : Forms} (lawful : Lawful forms) where
   module _ {f : Field} {n : ℤ} {part : List ℕ} (h : Written forms f n part) where
     form_lawful : LawfulForm h.form
-    form_lawful = MatchOption-at_some (Unit {0}) LawfulForm h.form h.has (lawful f.letter f.size)
+    form_lawful = MatchOption-at_some (Unit {0}) LawfulForm h.form h.has (lawful f.form.letter f.form.size)
 
     part_wide : length part ≡ h.form.width
     part_wide = ap length h.is ∙ form_lawful.long n h.within
@@ -20,7 +20,7 @@ module _ {forms : Forms} (lawful : Lawful forms) where
     part_fills : length part ≡ f.width
     part_fills = part_wide ∙ h.fills
 
-    part_read : result_ok (read_by (forms f.letter f.size) part) ≡ Some n
+    part_read : result_ok (read_by (forms f.form.letter f.form.size) part) ≡ Some n
     part_read = rw (h.has, eq-eqb _ _ part_wide, h.is, form_lawful.back n h.within)
 
     -- the field's bytes stand after those before it

@@ -4,31 +4,32 @@ use Rattle.std.specs.Prelude.{ℕ, suc, cond, List, [], ◌∷◌, ◌++◌, len
 use Rattle.std.specs.Result.{result_ok}
 use Rattle.bank.specs.Answers.{read_by}
 use Rattle.bank.specs.Model.{Forms}
+use Rattle.bank.specs.declared.FormName.{FormName}
 use Rattle.figures.specs.Line.{line_bytes}
 use Rattle.account.specs.declared.Field.{Field}
 
--- the letter p
-abbrev packed : ℕ
-packed = 112
+-- the form of the letter p (code 112) and a size
+abbrev packed : ℕ → FormName
+packed size = record { letter = 112; size = size }
 
 abbrev pub gross_field : Field
-gross_field = record { letter = packed; size = 7; places = 1; offset = 0; width = 4 }
+gross_field = record { form = packed 7; places = 1; offset = 0; width = 4 }
 
 abbrev pub tare_field : Field
-tare_field = record { letter = packed; size = 7; places = 1; offset = 4; width = 4 }
+tare_field = record { form = packed 7; places = 1; offset = 4; width = 4 }
 
 abbrev pub price_field : Field
-price_field = record { letter = packed; size = 5; places = 2; offset = 8; width = 3 }
+price_field = record { form = packed 5; places = 2; offset = 8; width = 3 }
 
 abbrev pub pay_field : Field
-pay_field = record { letter = packed; size = 9; places = 2; offset = 11; width = 5 }
+pay_field = record { form = packed 9; places = 2; offset = 11; width = 5 }
 
 abbrev pub layout : List Field
 layout = gross_field ∷ tare_field ∷ price_field ∷ pay_field ∷ []
 
 -- what the bank reads in the field's own bytes
 abbrev pub field_number : Forms → List ℕ → Field → Option ℤ
-field_number forms ticket f = result_ok (read_by (forms f.letter f.size) (take f.width (drop f.offset ticket)))
+field_number forms ticket f = result_ok (read_by (forms f.form.letter f.form.size) (take f.width (drop f.offset ticket)))
 
 -- the lines of these fields, numbered from i
 abbrev pub field_lines : Forms → List ℕ → ℕ → List Field → List ℕ

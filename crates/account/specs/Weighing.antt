@@ -14,7 +14,7 @@ pub record Weighing : Type 0 where
 -- the part is the number's image in the form that the bank has for the field
 pub record Written (forms : Forms) (f : Field) (n : ℤ) (part : List ℕ) : Type 0 where
   pub form : Form
-  pub has : forms f.letter f.size ≡ Some form
+  pub has : forms f.form.letter f.form.size ≡ Some form
   pub fills : form.width ≡ f.width
   pub within : Within form n
   pub is : part ≡ form.image n

@@ -5,46 +5,53 @@ ghost use Rattle.std.specs.Prelude.{◌≡◌, ◌+◌, ◌≤◌, length, IfOk,
 ghost use Rattle.account.specs.Account.{field_number, account_text};
 ghost use Rattle.account.specs.Weighing.{Tells};
 
-use bank::Bank;
+use bank::{Bank, FormName};
 use figures::Line;
 use std::alloc::{AllocError, Global};
 
-// A number in a ticket: its form by letter and size, its decimal places, and where its bytes stand.
+// A number in a ticket: its form, its decimal places, and where its bytes stand.
 struct Field {
-    letter: char,
-    size: u8,
+    form: FormName,
     places: u8,
     offset: usize,
     width: usize,
 }
 
 const GROSS: Field = Field {
-    letter: 'p',
-    size: 7,
+    form: FormName {
+        letter: 'p',
+        size: 7,
+    },
     places: 1,
     offset: 0,
     width: 4,
 };
 
 const TARE: Field = Field {
-    letter: 'p',
-    size: 7,
+    form: FormName {
+        letter: 'p',
+        size: 7,
+    },
     places: 1,
     offset: 4,
     width: 4,
 };
 
 const PRICE: Field = Field {
-    letter: 'p',
-    size: 5,
+    form: FormName {
+        letter: 'p',
+        size: 5,
+    },
     places: 2,
     offset: 8,
     width: 3,
 };
 
 const PAY: Field = Field {
-    letter: 'p',
-    size: 9,
+    form: FormName {
+        letter: 'p',
+        size: 9,
+    },
     places: 2,
     offset: 11,
     width: 5,
@@ -61,7 +68,7 @@ fn read_field<B: Bank>(bank: &B, ticket: &[u8], field: &Field) -> Option<i64>
     ensures { result ≡ field_number (B.forms bank.now) ticket.now field.now }
 {
     let part = &ticket[field.offset..field.offset + field.width];
-    bank.read(field.letter, field.size, part).ok()
+    bank.read(field.form, part).ok()
 }
 
 // A line for each field; a ticket of another length than the layout's is refused by the line `lay 22`.
