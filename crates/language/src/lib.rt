@@ -77,11 +77,11 @@ pub enum Check {
     TooFine = 19,
 }
 
-impl Check {
-    pub fn number(self) -> u8
-        ensures { result ≡ check_number self }
-    {
-        self as u8
+impl From<Check> for u8 {
+    ghost from_gives = { λ check number. number ≡ check_number check };
+
+    fn from(check: Check) -> u8 {
+        check as u8
     }
 }
 
@@ -108,11 +108,11 @@ pub enum Fault {
     NotHeld(BankRefusal),
 }
 
-impl Fault {
-    pub fn number(self) -> u8
-        ensures { result ≡ fault_number self }
-    {
-        match self {
+impl From<Fault> for u8 {
+    ghost from_gives = { λ fault number. number ≡ fault_number fault };
+
+    fn from(fault: Fault) -> u8 {
+        match fault {
             Fault::NoValue(_) => 30,
             Fault::TooLong => 31,
             Fault::NotHeld(_) => 32,
@@ -128,50 +128,42 @@ pub struct FieldFault {
 }
 
 // The tokens of a text are exactly its bytes that are not blank, each run read whole.
-pub fn tokens_stand() -> u8
+#[tactic(auto, using(crate::proofs::Tokens::Lexing::tokens_exactly))]
+pub fn tokens_stand()
     ensures { TokensExactly }
-{
-    0
-}
+{}
 
 // A text is accepted exactly when it writes a sheet that is admitted, and as that sheet.
-pub fn acceptance_stands() -> u8
+#[tactic(auto, using(crate::proofs::Acceptance::Acceptance::accepted_exactly))]
+pub fn acceptance_stands()
     ensures { (forms : Forms) → AcceptedExactly forms }
-{
-    0
-}
+{}
 
 // A refusal at a token stays the same whatever text follows it, and every text is accepted or refused.
-pub fn refusals_stand() -> u8
+#[tactic(auto, using(crate::proofs::Refusals::Stays::refused_first))]
+pub fn refusals_stand()
     ensures { (forms : Forms) → RefusedFirst forms }
-{
-    0
-}
+{}
 
 // Dropping takes the most whole units, rounding the nearest with halves away from zero.
-pub fn rounding_stands() -> u8
+#[tactic(auto, using(crate::proofs::Rounded::Quotients::rounds_right))]
+pub fn rounding_stands()
     ensures { RoundsRight }
-{
-    0
-}
+{}
 
 // The machine of the steps follows the course of every ticket.
-pub fn following_stands() -> u8
+#[tactic(auto, using(crate::proofs::Following::Following::following))]
+pub fn following_stands()
     ensures { Following }
-{
-    0
-}
+{}
 
 // An accepted sheet has at most 4,096 steps, their operands fit the types above, and a course has at most 262,144 entries.
-pub fn bounds_stand() -> u8
+pub fn bounds_stand()
     ensures { Bounds }
-{
-    0
-}
+{}
 
 // Fields lie inside the ticket, and a ticket keeps its length while it is worked.
-pub fn tickets_stand() -> u8
+#[tactic(auto, using(crate::proofs::Tickets::Tickets::tickets_kept))]
+pub fn tickets_stand()
     ensures { TicketsKept }
-{
-    0
-}
+{}

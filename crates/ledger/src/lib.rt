@@ -64,13 +64,12 @@ pub enum Answer {
     Refused(CallRefusal),
 }
 
-impl CallRefusal {
-    // The refusal's number.
-    pub fn number(self) -> u8
-        ensures { result ≡ refusal_number self }
-    {
-        match self {
-            CallRefusal::Text(text) => text.check.number(),
+impl From<CallRefusal> for u8 {
+    ghost from_gives = { λ refusal number. number ≡ refusal_number refusal };
+
+    fn from(refusal: CallRefusal) -> u8 {
+        match refusal {
+            CallRefusal::Text(text) => u8::from(text.check),
             CallRefusal::NoSheet => 20,
             CallRefusal::RunOpen => 21,
             CallRefusal::WrongLength => 22,
@@ -85,57 +84,49 @@ impl CallRefusal {
 }
 
 // What changes the ticket: a load unless a run is open, a lay that is laid, an entry that is entered, a work that finishes.
-pub fn changes_stand() -> u8
+#[tactic(auto, using(crate::proofs::Laws::Changes::changes))]
+pub fn changes_stand()
     ensures { (forms : Forms) (lent : List ℕ) → Changes forms lent }
-{
-    0
-}
+{}
 
 // The ledger's run is the one that the calls and their answers tell of.
-pub fn runs_stand() -> u8
+#[tactic(auto, using(crate::proofs::Laws::Runs::telling))]
+pub fn runs_stand()
     ensures { (forms : Forms) (lent : List ℕ) → Telling forms lent }
-{
-    0
-}
+{}
 
 // An accepted work stops exactly when its run's budgets add up to less than the course's length.
-pub fn stops_stand() -> u8
+#[tactic(auto, using(crate::proofs::Laws::Works::stopping))]
+pub fn stops_stand()
     ensures { (forms : Forms) (lent : List ℕ) → Stopping forms lent }
-{
-    0
-}
+{}
 
 // An accepted work that does not stop is answered as the course ends, and leaves the ticket so.
-pub fn endings_stand() -> u8
+#[tactic(auto, using(crate::proofs::Laws::Works::ending))]
+pub fn endings_stand()
     ensures { (forms : Forms) (lent : List ℕ) → Ending forms lent }
-{
-    0
-}
+{}
 
 // A refused call leaves the ledger as it was; a refused text leaves no sheet, no ticket and no run.
-pub fn refusals_stand() -> u8
+#[tactic(auto, using(crate::proofs::Laws::Refusals::refusals))]
+pub fn refusals_stand()
     ensures { (forms : Forms) (lent : List ℕ) → Refusals forms lent }
-{
-    0
-}
+{}
 
 // One list of calls after another is answered as the two together, and a list has as many answers as calls.
-pub fn lists_join() -> u8
+#[tactic(auto, using(crate::proofs::Laws::Lists::joins))]
+pub fn lists_join()
     ensures { (forms : Forms) (lent : List ℕ) → Joins forms lent }
-{
-    0
-}
+{}
 
 // After every list of calls a sheet was read from a text, a ticket fits the sheet, and a run is on that ticket and not at its end.
-pub fn ledgers_stand() -> u8
+#[tactic(auto, using(crate::proofs::Laws::Standing::stands_always))]
+pub fn ledgers_stand()
     ensures { StandsAlways }
-{
-    0
-}
+{}
 
 // A refused enter bears the bank's refusal 3, and a refused read its 4.
-pub fn refusals_bear() -> u8
+#[tactic(auto, using(crate::proofs::Laws::Bearing::bear_always))]
+pub fn refusals_bear()
     ensures { BearAlways }
-{
-    0
-}
+{}
