@@ -11,13 +11,13 @@ use bank::BankRefusal;
 use language::{Entry, FieldFault, TextRefusal};
 
 // A part of lent bytes: where it starts and how long it is, cut where the bytes end.
-#[derive(Clone, Copy, PartialEq, Debug)]
+#[derive(Clone, Copy, PartialEq, Eq, Debug)]
 pub struct Place {
     pub start: usize,
     pub length: usize,
 }
 
-#[derive(Clone, Copy, PartialEq, Debug)]
+#[derive(Clone, Copy, PartialEq, Eq, Debug)]
 pub enum Call {
     // reads a sheet's text, and forgets the ticket
     Load(Place),
