@@ -7,12 +7,9 @@ use Rattle.language.specs.Acceptance.{AcceptedExactly}
 use Rattle.language.proofs.Acceptance.Soundness as S
 use Rattle.language.proofs.Acceptance.Completeness as C
 
-same_sheet : (a b : Sheet) → ◌≡◌ {A = Result Sheet TextRefusal} (Ok a) (Ok b) → a ≡ b
-same_sheet a b e = cc
-
 pub accepted_exactly : (forms : Forms) → AcceptedExactly forms
 accepted_exactly forms = record {
   sound = S.sound forms;
   complete = C.complete forms;
-  one_reading = λ text sheet other w a v b. same_sheet sheet other (sym (C.complete forms text sheet w a) ∙ C.complete forms text other v b);
+  one_reading = λ text sheet other w a v b. cc (C.complete forms text sheet w a, C.complete forms text other v b);
 }

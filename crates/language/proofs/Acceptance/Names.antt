@@ -64,12 +64,9 @@ found_before i (x ∷ xs) f ys h =
     let other = not-true (same_bytes x.name f.name) (and_parts _ _ h₃).0 in
     rw (same_bytes_flip x.name f.name other) (found_before (i + 1) xs f ys h₂)
 
-Some≢None : {k : ℕ} → ◌≡◌ {A = Option ℕ} (Some k) None → ⊥
-Some≢None e = let z : ◌≡◌ {A = ℕ} 0 1 = cc in omega arith
-
 -- a name that is found is that field's
 pub found_is : (i : ℕ) (w : List ℕ) (fs : List Field) (k : ℕ) → found_from i w fs ≡ Some k → (j : ℕ) × (k ≡ i + j) × (j < length fs) × (w ≡ name_of fs j)
-found_is i w [] k h = absurd (Some≢None (sym h))
+found_is i w [] k h = cc
 found_is i w (f ∷ fs) k h = go (same_bytes w f.name) refl h (found_is (i + 1) w fs k)
   where
     Found : Type 0
@@ -92,7 +89,7 @@ distinct_push i (x ∷ xs) f h k = go (same_bytes f.name x.name) refl k (distinc
 
     go : (b : Bool) → same_bytes f.name x.name ≡ b → cond b (Some i) (found_from (i + 1) f.name xs) ≡ None
         → (found_from (i + 1) f.name xs ≡ None → distinct (xs ++ f ∷ []) ≡ true) → distinct (x ∷ xs ++ f ∷ []) ≡ true
-    go true e q ih = absurd (Some≢None q)
+    go true e q ih = cc
     go false e q ih =
         and_from (all test (xs ++ f ∷ [])) (distinct (xs ++ f ∷ []))
         (all_append test xs (f ∷ []) h₁.0 (and_from (test f) true (not_from_false (same_bytes x.name f.name) (same_bytes_flip f.name x.name e)) refl))

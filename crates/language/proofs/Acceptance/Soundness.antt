@@ -92,21 +92,18 @@ abbrev Right : Forms → List Token → Sheet → Type 0
 Right forms ts sheet = (ts ≡ printed sheet ++ ends ∷ []) × Admits forms sheet
 
 module _ (forms : Forms) (sheet : Sheet) where
-  refused : {c : Check} → ◌≡◌ {A = Result Sheet Check} (Err c) (Ok sheet) → ⊥
-  refused e = let z : ◌≡◌ {A = ℕ} 0 1 = cc in omega arith
-
   ends_right : (s : State) (p : Phase) → Sound forms s p → ◌≡◌ {A = Result Sheet Check} (elim (is_finished p) [ true ↦ Ok (sheet_of s) | false ↦ Err Misplaced ]) (Ok sheet) → Right forms (whole s p (ends ∷ [])) sheet
-  ends_right s declaring h e = absurd (refused e)
-  ends_right s field_name h e = absurd (refused e)
-  ends_right s (field_letter m) h e = absurd (refused e)
-  ends_right s (field_size m c) h e = absurd (refused e)
-  ends_right s (field_places m c z) h e = absurd (refused e)
-  ends_right s row_count h e = absurd (refused e)
-  ends_right s statement h e = absurd (refused e)
-  ends_right s (becomes f) h e = absurd (refused e)
-  ends_right s (operand p os) h e = absurd (refused e)
-  ends_right s (operator p os t) h e = absurd (refused e)
-  ends_right s (closing f x) h e = absurd (refused e)
+  ends_right s declaring h e = cc
+  ends_right s field_name h e = cc
+  ends_right s (field_letter m) h e = cc
+  ends_right s (field_size m c) h e = cc
+  ends_right s (field_places m c z) h e = cc
+  ends_right s row_count h e = cc
+  ends_right s statement h e = cc
+  ends_right s (becomes f) h e = cc
+  ends_right s (operand p os) h e = cc
+  ends_right s (operator p os t) h e = cc
+  ends_right s (closing f x) h e = cc
   ends_right s finished h e =
       let same : sheet_of s ≡ sheet = cc in
       subst (Right forms (whole s finished (ends ∷ []))) same (end_tokens forms s h.at.1, end_admits forms s h)
@@ -120,7 +117,7 @@ module _ (forms : Forms) (sheet : Sheet) where
 
       step : (k : Token) (o : Outcome) → Fine (Reaches forms (λ rest. whole s s.phase (k ∷ rest))) o → closed ts ≡ true
           → ◌≡◌ {A = Result Sheet Check} (elim o [ Err c ↦ Err c | Ok u ↦ reads forms u ts ]) (Ok sheet) → Later → Right forms (whole s s.phase (k ∷ ts)) sheet
-      step k (Err x) f c e later = absurd (refused e)
+      step k (Err x) f c e later = cc
       step k (Ok u) f c e later = let (a, b) = later u f.sound c e in (sym (f.same ts) ∙ a, b)
 
       last : (ts : List Token) → is_empty ts ≡ true → reads forms s (ends ∷ ts) ≡ Ok sheet → Right forms (whole s s.phase (ends ∷ ts)) sheet
@@ -131,7 +128,7 @@ module _ (forms : Forms) (sheet : Sheet) where
       by (word w) c e later = step (word w) (on_word s w s.phase) (word_step forms s s.phase w h) c e later
       by (number n q) c e later = step (number n q) (on_number s forms n q s.phase) (number_step forms s s.phase n q h) c e later
       by (symbol b) c e later = step (symbol b) (on_symbol s b s.phase) (symbol_step forms s s.phase b h) c e later
-      by none c e later = absurd (refused e)
+      by none c e later = cc
       by ends c e later = last ts c e
 
 starting_sound : (forms : Forms) → Sound forms starting declaring
@@ -145,7 +142,7 @@ sound forms text sheet h = go (ltb 4096 (length text)) refl h
   where
     go : (b : Bool) → ltb 4096 (length text) ≡ b
         → ◌≡◌ {A = Result Sheet TextRefusal} (elim b [ true ↦ Err (record { check = TextTooLong; place = 0 }) | false ↦ reading forms starting (tokens text) ]) (Ok sheet) → Writes text sheet × (A.admitted forms sheet ≡ true)
-    go true e q = let z : ◌≡◌ {A = ℕ} 0 1 = cc in absurd (omega arith)
+    go true e q = cc
     go false e q =
         let (same, admits) = reads_right forms sheet (kinds (tokens text)) starting (starting_sound forms) (closed_tokens text) (sym (reading_reads forms (tokens text) starting) ∙ ap unplaced q) in
         (record { same_tokens = same; short = ltb-false 4096 (length text) e }, admitted_by forms sheet admits)

@@ -17,7 +17,7 @@ unplaced (Err r) = Err r.check
 
 pub unplaced_ok : (r : Result Sheet TextRefusal) (s : Sheet) → unplaced r ≡ Ok s → r ≡ Ok s
 unplaced_ok (Ok t) s h = let e : t ≡ s = cc in ap Ok e
-unplaced_ok (Err x) s h = let z : ◌≡◌ {A = ℕ} 0 1 = cc in absurd (omega arith)
+unplaced_ok (Err x) s h = cc
 
 module _ (forms : Forms) where
   abbrev pub reads : State → List Token → Result Sheet Check
@@ -48,12 +48,12 @@ module _ (forms : Forms) where
       Later = (v w : State) → runs forms v ts ≡ Ok w → is_finished w.phase ≡ true → reads v (ts ++ ends ∷ []) ≡ Ok (sheet_of w)
 
       step : (o : Outcome) → follow o (λ v. runs forms v ts) ≡ Ok u → Later → ◌≡◌ {A = Result Sheet Check} (elim o [ Err c ↦ Err c | Ok v ↦ reads v (ts ++ ends ∷ []) ]) (Ok (sheet_of u))
-      step (Err c) q later = let z : ◌≡◌ {A = ℕ} 0 1 = cc in absurd (omega arith)
+      step (Err c) q later = cc
       step (Ok v) q later = later v u q f
 
       go : (t : Token) → runs forms s (t ∷ ts) ≡ Ok u → Later → reads s ((t ∷ ts) ++ ends ∷ []) ≡ Ok (sheet_of u)
       go (word w) q later = step (on_token s forms (word w)) q later
       go (number n k) q later = step (on_token s forms (number n k)) q later
       go (symbol b) q later = step (on_token s forms (symbol b)) q later
-      go none q later = let z : ◌≡◌ {A = ℕ} 0 1 = cc in absurd (omega arith)
-      go ends q later = let z : ◌≡◌ {A = ℕ} 0 1 = cc in absurd (omega arith)
+      go none q later = cc
+      go ends q later = cc

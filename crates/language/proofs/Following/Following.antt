@@ -71,16 +71,6 @@ module _ (forms : Forms) (sheet : Sheet) (lines : List Line) where
   past (goes k m d) zero h = absurd (omega arith)
   past (goes {c = c} k m d) (suc n) h = one_more n c m (past d n (le_of_suc-le-suc h))
 
--- a run is not both going on and over
-apart : (c : Config) (o : Result (List ℕ) FieldFault) → running c ≡ over o → ⊥
-apart c o e = let z : ◌≡◌ {A = ℕ} 0 1 = cc in omega arith
-
-same_config : (c d : Config) → running c ≡ running d → c ≡ d
-same_config c d e = cc
-
-same_outcome : (o p : Result (List ℕ) FieldFault) → over o ≡ over p → o ≡ p
-same_outcome o p e = cc
-
 -- the entry that n come before
 numbered : (es : List Entry) (n : ℕ) → get_or es n no_entry ≡ entry_of es (n + 1)
 numbered es n = let e : n ≡ n + 1 - 1 = omega arith in ap (λ k. get_or es k no_entry) e
@@ -100,9 +90,9 @@ following forms sheet good ticket = record { goes_on = λ n h. ((at_work n h).no
     go : (n : ℕ) (c : Config) → (worked forms sheet ticket n).state ≡ running c → (n < length es) ⊎ (length es ≤ n) → Reached forms sheet ticket n c
     go n c e (inl h) =
         let r = at_work n h in
-        let same : r.now ≡ c = same_config r.now c (sym (ap (λ m. m.state) r.made) ∙ e) in
+        let same : r.now ≡ c = cc (ap (λ m. m.state) r.made) in
         record { before = h; sound = rw same at r.sound; next = r.next; makes_next = rw same at r.makes_next ∙ ap (λ e. makes e r.next) (numbered es n); leads = rw add-one r.leads }
-    go n c e (inr h) = absurd (apart c (course forms sheet ticket).outcome (sym e ∙ ap (λ m. m.state) (done n h)))
+    go n c e (inr h) = cc (ap (λ m. m.state) (done n h))
 
 -- a move that ends the run is the course's last, and ends it as the course ends
 pub last_move : {forms : Forms} {sheet : Sheet} {ticket : List ℕ} {n : ℕ} {c : Config} → Follows forms sheet ticket → (r : Reached forms sheet ticket n c)
@@ -111,5 +101,5 @@ last_move {forms} {sheet} {ticket} {n} {c} f r o e = go (cases_lt (n + 1) (lengt
   where
     go : (n + 1 < length (course_entries forms sheet ticket)) ⊎ (length (course_entries forms sheet ticket) ≤ n + 1)
         → (n + 1 ≡ length (course_entries forms sheet ticket)) × (o ≡ (course forms sheet ticket).outcome)
-    go (inl h) = absurd (apart (f.goes_on (n + 1) h).0 o (sym (ap (λ m. m.state) (f.goes_on (n + 1) h).1) ∙ r.leads ∙ e))
-    go (inr h) = (omega (arith, r.before), same_outcome o (course forms sheet ticket).outcome (sym e ∙ sym r.leads ∙ ap (λ m. m.state) (f.ends (n + 1) h)))
+    go (inl h) = cc (ap (λ m. m.state) (f.goes_on (n + 1) h).1)
+    go (inr h) = (omega (arith, r.before), cc (ap (λ m. m.state) (f.ends (n + 1) h)))

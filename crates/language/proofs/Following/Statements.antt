@@ -17,7 +17,7 @@ use Rattle.language.proofs.Following.Values.{Placed, in_rows, scoped, side_works
 
 module _ (forms : Forms) (sheet : Sheet) (lines : List Line) where
   outside : (i : Bool) (row : ℕ) → not i ≡ true → Placed sheet i row → row ≡ 255
-  outside true row n p = let z : ◌≡◌ {A = ℕ} 0 1 = cc in absurd (omega arith)
+  outside true row n p = cc
   outside false row n p = p
 
   condition_length : (k : ℕ) (l : Expr) (o : Relation) (r : Expr) (away : ℕ)

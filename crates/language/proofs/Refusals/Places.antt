@@ -12,9 +12,6 @@ use Rattle.language.specs.Reading.{State, Outcome, on_token, is_finished, sheet_
 use Rattle.language.proofs.Tokens.Closing.{closed}
 use Rattle.language.proofs.Tokens.Lexing.{kinds, lexed_tokens}
 
-pub not_refused : {s : Sheet} {r : TextRefusal} → ◌≡◌ {A = Result Sheet TextRefusal} (Ok s) (Err r) → ⊥
-not_refused e = let z : ◌≡◌ {A = ℕ} 0 1 = cc in omega arith
-
 module _ (forms : Forms) where
   -- one token more: the answer by the test for the end and the token's outcome
   abbrev pub answer_by : State → List Placed → ℕ → Bool → Outcome → Result Sheet TextRefusal
@@ -36,7 +33,7 @@ module _ (forms : Forms) where
       by (Ok t) c e ih = ih t r c later e
 
       last : (b : Bool) → answer_by s ps p.place b (on_token s forms ends) ≡ Err r → P r.place
-      last true e = absurd (not_refused e)
+      last true e = cc
       last false e = let q : p.place ≡ r.place = cc in rw q at here
 
       go : (t : Token) → closed (t ∷ kinds ps) ≡ true → reading forms s (record { place = p.place; token = t } ∷ ps) ≡ Err r → Later → P r.place

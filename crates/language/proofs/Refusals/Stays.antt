@@ -13,7 +13,7 @@ use Rattle.language.specs.Refusals.{RefusedFirst}
 use Rattle.language.proofs.Tokens.Closing.{closed_lexed, closed_tokens}
 use Rattle.language.proofs.Tokens.Stepping.{next_token, some_bytes}
 use Rattle.language.proofs.Tokens.Lexing.{lexed, lexed_tokens}
-use Rattle.language.proofs.Refusals.Places.{not_refused, answer_by, refused_at, Between, token_places}
+use Rattle.language.proofs.Refusals.Places.{answer_by, refused_at, Between, token_places}
 use Rattle.language.proofs.Refusals.Prefixes.{longer_front, same_token, whole_alike}
 
 module _ (forms : Forms) (token after other : List ℕ) (w : Whole token after) (v : Whole token other) where
@@ -36,7 +36,7 @@ module _ (forms : Forms) (token after other : List ℕ) (w : Whole token after) 
       go : (b : Bool) (o : Outcome) → (is_last (token_of l.bytes) && is_finished s.phase) ≡ b → on_token s forms (token_of l.bytes) ≡ o
           → answer_by forms s (tokens_from (at + length gap + length l.bytes) [] rest) (at + length gap) b o ≡ Err r → Later
           → reading forms s (tokens_from at [] (before ++ (token ++ other))) ≡ Err r
-      go true o eb eo q later = absurd (not_refused q)
+      go true o eb eo q later = cc
       go false (Err c) eb eo q later =
           let here : at + length gap ≡ r.place = cc in
           let (zs, longer, rests) = longer_front gap before (l.bytes ++ rest) (token ++ after) (sym cut ∙ e) (omega arith) in

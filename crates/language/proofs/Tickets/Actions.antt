@@ -73,7 +73,7 @@ record Image (bs image : List ℕ) : Type 0 where
   bytes : Bytes image
 
 written_image : (o : Option Form) → IfSome o LawfulForm → (n : ℤ) (bs : List ℕ) (image : List ℕ) → written o n bs ≡ Ok image → Image bs image
-written_image None l n bs image e = let z : ◌≡◌ {A = ℕ} 0 1 = cc in absurd (omega arith)
+written_image None l n bs image e = cc
 written_image (Some f) l n bs image e = go (eqb (length bs) f.width) (le_z f.low n && le_z n f.high) refl refl e
   where
     go : (wide inside : Bool) → eqb (length bs) f.width ≡ wide → (le_z f.low n && le_z n f.high) ≡ inside
@@ -84,8 +84,8 @@ written_image (Some f) l n bs image e = go (eqb (length bs) f.width) (le_z f.low
         let within = within_from_test f n k in
         let made : Image bs (f.image n) = record { some = omega (arith, l.some_bytes); long = omega (arith, l.long n within); bytes = l.bytes n within } in
         rw same at made
-    go true false h k e = let z : ◌≡◌ {A = ℕ} 0 1 = cc in absurd (omega arith)
-    go false inside h k e = let z : ◌≡◌ {A = ℕ} 0 1 = cc in absurd (omega arith)
+    go true false h k e = cc
+    go false inside h k e = cc
 
 pub kept_same : (ticket : List ℕ) → Kept ticket ticket
 kept_same ticket = record { same_length = refl; bytes = λ b. b }

@@ -160,7 +160,7 @@ module _ (forms : Forms) (sheet : Sheet) (a : Admits forms sheet) where
 -- no run is over before its first move
 not_over : (forms : Forms) (sheet : Sheet) (ticket : List ℕ) (o : Result (List ℕ) FieldFault) → (worked forms sheet ticket 0).state ≡ over o → ⊥
 unfolding moves
-not_over forms sheet ticket o h = let z : ◌≡◌ {A = ℕ} 0 1 = cc in omega arith
+not_over forms sheet ticket o h = cc
 
 pub faults_bear : (forms : Forms) → Lawful forms → FaultsBear forms
 faults_bear forms lawful sheet good ticket long b e = go (length (course_entries forms sheet ticket)) refl

@@ -24,7 +24,7 @@ always (yields figure a) = tt
 always (fails b) = tt
 
 all_nth : {X : Type 0} (P : X → Type 0) (xs : List X) (i : ℕ) (x : X) → slice_get xs i ≡ Some x → AllByRecursion P xs → P x
-all_nth P [] i x e h = let z : ◌≡◌ {A = ℕ} 0 1 = cc in absurd (omega arith)
+all_nth P [] i x e h = cc
 all_nth P (y ∷ ys) zero x e h = let same : y ≡ x = cc in rw same at h.0
 all_nth P (y ∷ ys) (suc i) x e h = all_nth P ys i x e h.1
 

@@ -37,8 +37,8 @@ module _ (forms : Forms) (lent : List ℕ) where
   wide text s t f row q fits h = part_wide forms s (admits forms s ((accepted_exactly forms).sound text s q).1) row f t (known_named s f row h) fits.long
 
   enter_bears : {l : Ledger} (f row : ℕ) (n : ℤ) (e : BankRefusal) → Standing forms lent l → (enters forms l f row n).answer ≡ Refused (NotHeld e) → e ≡ B.OutOfRange
-  enter_bears f row n e nothing h = let z : ◌≡◌ {A = ℕ} 0 1 = cc in absurd (omega arith)
-  enter_bears f row n e (a_sheet text s q) h = let z : ◌≡◌ {A = ℕ} 0 1 = cc in absurd (omega arith)
+  enter_bears f row n e nothing h = cc
+  enter_bears f row n e (a_sheet text s q) h = cc
   enter_bears f row n e (a_ticket text s t q fits) h =
       go (known s f row) (written (form_of forms (field_at s f)) n (part forms s f row t)) (λ k. write_bears _ n _ (wide text s t f row q fits k)) refl h
     where
@@ -50,10 +50,10 @@ module _ (forms : Forms) (lent : List ℕ) where
             | Ok image ↦ record { answer = Entered; after = standing (Some s) (Some (stored forms s f row image t)) None }
             | Err e ↦ refuse l (NotHeld e)
           ])).answer ≡ Refused (NotHeld e) → e ≡ B.OutOfRange
-      go false v w k h = let z : ◌≡◌ {A = ℕ} 0 1 = cc in absurd (omega arith)
-      go true (Ok image) w k h = let z : ◌≡◌ {A = ℕ} 0 1 = cc in absurd (omega arith)
+      go false v w k h = cc
+      go true (Ok image) w k h = cc
       go true (Err d) w k h = let same : d ≡ e = cc in sym same ∙ w k
-  enter_bears f row n e (a_run text s t sum q fits some less) h = let z : ◌≡◌ {A = ℕ} 0 1 = cc in absurd (omega arith)
+  enter_bears f row n e (a_run text s t sum q fits some less) h = cc
 
   -- on a ticket, whether a run is open or not
   ticket_bears : (text : List ℕ) (s : Sheet) (t : List ℕ) (l : Ledger) (f row : ℕ) (e : BankRefusal) → sheet_read forms text ≡ Ok s → Fits forms lent s t
@@ -66,13 +66,13 @@ module _ (forms : Forms) (lent : List ℕ) where
     where
       go : (b : Bool) (v : Result ℤ BankRefusal) → (known s f row ≡ true → ReadBears v) → known s f row ≡ b
           → (refuse_if l (not b) NoField (elim v [ Ok n ↦ record { answer = Number n; after = l } | Err e ↦ refuse l (NoValue e) ])).answer ≡ Refused (NoValue e) → e ≡ B.NoValue
-      go false v w k h = let z : ◌≡◌ {A = ℕ} 0 1 = cc in absurd (omega arith)
-      go true (Ok n) w k h = let z : ◌≡◌ {A = ℕ} 0 1 = cc in absurd (omega arith)
+      go false v w k h = cc
+      go true (Ok n) w k h = cc
       go true (Err d) w k h = let same : d ≡ e = cc in sym same ∙ w k
 
   read_call_bears : {l : Ledger} (f row : ℕ) (e : BankRefusal) → Standing forms lent l → (reads forms l f row).answer ≡ Refused (NoValue e) → e ≡ B.NoValue
-  read_call_bears f row e nothing h = let z : ◌≡◌ {A = ℕ} 0 1 = cc in absurd (omega arith)
-  read_call_bears f row e (a_sheet text s q) h = let z : ◌≡◌ {A = ℕ} 0 1 = cc in absurd (omega arith)
+  read_call_bears f row e nothing h = cc
+  read_call_bears f row e (a_sheet text s q) h = cc
   read_call_bears f row e (a_ticket text s t q fits) h = ticket_bears text s t (standing (Some s) (Some t) None) f row e q fits h
   read_call_bears f row e (a_run text s t sum q fits some less) h =
       ticket_bears text s t (standing (Some s) (Some t) (Some (record { opening = t; sum = sum }))) f row e q fits h

@@ -18,8 +18,8 @@ module _ (forms : Forms) (lent : List ℕ) where
   only : {l : Ledger} {c : Call} {x : Answered} → Effect forms lent l c x
       → (x.after.ticket ≡ l.ticket → ⊥) → MayChange c x.answer
   only (refused why e) h = absurd (h refl)
-  only (unread p r e) h = λ e. let z : ◌≡◌ {A = ℕ} 0 1 = cc in absurd (omega arith)
-  only (loaded p s k) h = λ e. let z : ◌≡◌ {A = ℕ} 0 1 = cc in absurd (omega arith)
+  only (unread p r e) h = λ e. cc
+  only (loaded p s k) h = λ e. cc
   only (laid p s a k) h = refl
   only (entered f row n s t image a b c) h = refl
   only (stopped budget s t a b some c) h = absurd (h (sym b))
@@ -48,12 +48,12 @@ module _ (forms : Forms) (lent : List ℕ) where
 
   lay : {l : Ledger} {p : Place} {x : Answered} → Effect forms lent l (Lay p) x → x.answer ≡ Laid
       → x.after.ticket ≡ Some (at lent p)
-  lay (refused why e) h = let z : ◌≡◌ {A = ℕ} 0 1 = cc in absurd (omega arith)
+  lay (refused why e) h = cc
   lay (laid p s a k) h = refl
 
   enter : {l : Ledger} {f row : ℕ} {n : ℤ} {x : Answered} → Effect forms lent l (Enter f row n) x → x.answer ≡ Entered
       → Stored forms lent f row n l x.after
-  enter (refused why e) h = let z : ◌≡◌ {A = ℕ} 0 1 = cc in absurd (omega arith)
+  enter (refused why e) h = cc
   enter (entered f row n s t image a b c) h =
       record { sheet = s; ticket = t; image = image; sheet_was = a; ticket_was = b; image_is = c; ticket_is = refl }
 

@@ -32,14 +32,14 @@ module _ (forms : Forms) (lent : List ℕ) where
   leaves : {l : Ledger} {c : Call} {x : Answered} → Effect forms lent l c x → (why : CallRefusal) → x.answer ≡ Refused why → Leaves (of_text why) l x.after
   leaves (refused v e) why h = let same : v ≡ why = cc in rw (ap of_text (sym same) ∙ e) refl
   leaves (unread p r e) why h = let same : Text r ≡ why = cc in rw (ap of_text (sym same)) refl
-  leaves (loaded p s k) why h = let z : ◌≡◌ {A = ℕ} 0 1 = cc in absurd (omega arith)
-  leaves (laid p s a k) why h = let z : ◌≡◌ {A = ℕ} 0 1 = cc in absurd (omega arith)
-  leaves (entered f row n s t image a b c) why h = let z : ◌≡◌ {A = ℕ} 0 1 = cc in absurd (omega arith)
-  leaves (stopped budget s t a b some c) why h = let z : ◌≡◌ {A = ℕ} 0 1 = cc in absurd (omega arith)
-  leaves (finished budget s t u a b c d) why h = let z : ◌≡◌ {A = ℕ} 0 1 = cc in absurd (omega arith)
-  leaves (faulted budget s t w a b c d) why h = let z : ◌≡◌ {A = ℕ} 0 1 = cc in absurd (omega arith)
-  leaves dropped why h = let z : ◌≡◌ {A = ℕ} 0 1 = cc in absurd (omega arith)
-  leaves (number f row n) why h = let z : ◌≡◌ {A = ℕ} 0 1 = cc in absurd (omega arith)
+  leaves (loaded p s k) why h = cc
+  leaves (laid p s a k) why h = cc
+  leaves (entered f row n s t image a b c) why h = cc
+  leaves (stopped budget s t a b some c) why h = cc
+  leaves (finished budget s t u a b c d) why h = cc
+  leaves (faulted budget s t w a b c d) why h = cc
+  leaves dropped why h = cc
+  leaves (number f row n) why h = cc
 
   left : (cs : List Call) (c : Call) (why : CallRefusal) → answer_to forms lent cs c ≡ Refused why → Leaves (of_text why) (ledger forms lent cs) (answered forms lent (ledger forms lent cs) c).after
   left cs c why h = leaves (effect forms lent (ledger forms lent cs) c) why h

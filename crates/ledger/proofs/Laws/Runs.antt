@@ -13,7 +13,7 @@ use Rattle.ledger.proofs.Laws.Lists.{one_more}
 
 -- a refusal of no text leaves the run
 left : (why : CallRefusal) (o : Option OpenRun) → of_text why ≡ false → unless_text why o ≡ o
-left (Text r) o e = let z : ◌≡◌ {A = ℕ} 0 1 = cc in absurd (omega arith)
+left (Text r) o e = cc
 left NoSheet o e = refl
 left RunOpen o e = refl
 left WrongLength o e = refl
@@ -92,9 +92,9 @@ module _ (forms : Forms) (lent : List ℕ) where
   told cs = told_from [] fresh None refl (closed refl) cs
 
   tells_by : (cs : List Call) {o : Option OpenRun} → run_of cs (answers forms lent fresh cs) ≡ o → Told (ledger forms lent cs) o → Tells forms lent cs
-  tells_by cs q (closed n) = record { none_open = λ e. n; one_open = λ o e. let z : ◌≡◌ {A = ℕ} 0 1 = cc in absurd (omega arith) }
+  tells_by cs q (closed n) = record { none_open = λ e. n; one_open = λ o e. cc }
   tells_by cs q (open_run r o n h) = record {
-    none_open = λ e. let z : ◌≡◌ {A = ℕ} 0 1 = cc in absurd (omega arith);
+    none_open = λ e. cc;
     one_open = λ p e.
         let same : o ≡ p = cc in
         rw (← same) (r.opening, h.ticket_was, n ∙ ap (λ (k : ℕ). Some (record { opening = r.opening; sum = k })) h.sum_is);

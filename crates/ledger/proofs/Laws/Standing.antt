@@ -21,14 +21,14 @@ module _ (forms : Forms) (lawful : Lawful forms) (lent : List ℕ) where
 
   -- what is known of a sheet and a ticket that stand
   sheet_known : {l : Ledger} (s : Sheet) → Standing forms lent l → l.sheet ≡ Some s → (text : List ℕ) × (sheet_read forms text ≡ Ok s)
-  sheet_known s nothing e = let z : ◌≡◌ {A = ℕ} 0 1 = cc in absurd (omega arith)
+  sheet_known s nothing e = cc
   sheet_known s (a_sheet text r q) e = (text, q ∙ cc)
   sheet_known s (a_ticket text r t q f) e = (text, q ∙ cc)
   sheet_known s (a_run text r t sum q f some less) e = (text, q ∙ cc)
 
   ticket_fits : {l : Ledger} (s : Sheet) (t : List ℕ) → Standing forms lent l → l.sheet ≡ Some s → l.ticket ≡ Some t → Fits forms lent s t
-  ticket_fits s t nothing a b = let z : ◌≡◌ {A = ℕ} 0 1 = cc in absurd (omega arith)
-  ticket_fits s t (a_sheet text r q) a b = let z : ◌≡◌ {A = ℕ} 0 1 = cc in absurd (omega arith)
+  ticket_fits s t nothing a b = cc
+  ticket_fits s t (a_sheet text r q) a b = cc
   ticket_fits s t (a_ticket text r u q f) a b = let es : r ≡ s = cc in let et : u ≡ t = cc in rw (es, et) at f
   ticket_fits s t (a_run text r u sum q f some less) a b = let es : r ≡ s = cc in let et : u ≡ t = cc in rw (es, et) at f
 

@@ -59,9 +59,9 @@ module _ (forms : Forms) (lent : List ℕ) (cs : List Call) (budget : ℕ) where
         only = λ n e k. omega (arith, w.sum_is, ltb-true (sum_with forms lent now t budget) (length (course_entries s t)) c);
       }
   stop q (finished _ s t u a b c d) h = over s t a (runs_on s t a b) c (λ n e k.
-      let z : ◌≡◌ {A = ℕ} 0 1 = cc (ap (λ (y : Answered). y.answer) q) in absurd (omega arith))
+      cc (ap (λ (y : Answered). y.answer) q))
   stop q (faulted _ s t v a b c d) h = over s t a (runs_on s t a b) c (λ n e k.
-      let z : ◌≡◌ {A = ℕ} 0 1 = cc (ap (λ (y : Answered). y.answer) q) in absurd (omega arith))
+      cc (ap (λ (y : Answered). y.answer) q))
 
   after : {x : Answered} → answered forms lent now (Work budget) ≡ x → ledger forms lent (cs ++ Work budget ∷ []) ≡ x.after
   after q = one_more forms lent cs (Work budget) ∙ ap (λ (y : Answered). y.after) q
@@ -79,11 +79,11 @@ module _ (forms : Forms) (lent : List ℕ) (cs : List Call) (budget : ℕ) where
   end q (finished _ s t u a b c d) h g = record {
     opened = opened s t a (runs_on s t a b);
     finishes = λ v k. record { answer_is = ap (λ (y : Answered). y.answer) q; ticket_is = ticket_after q ∙ cc; run_is = run_after q };
-    faults = λ v k. let z : ◌≡◌ {A = ℕ} 0 1 = cc in absurd (omega arith);
+    faults = λ v k. cc;
   }
   end q (faulted _ s t v a b c d) h g = record {
     opened = opened s t a (runs_on s t a b);
-    finishes = λ u k. let z : ◌≡◌ {A = ℕ} 0 1 = cc in absurd (omega arith);
+    finishes = λ u k. cc;
     faults = λ u k. record {
       answer_is = ap (λ (y : Answered). y.answer) q ∙ cc;
       ticket_is = ticket_after q ∙ sym b ∙ (runs_on s t a b).ticket_is;
