@@ -1,8 +1,5 @@
 -- A text is accepted exactly when it writes an admitted sheet, and as that sheet.
-use Rattle.std.proofs.Common.{◌≡◌, Ok, Result, sym, ◌∙◌}
 use Rattle.bank.specs.Model.{Forms}
-use Rattle.language.specs.declared.TextRefusal.{TextRefusal}
-use Rattle.language.specs.Syntax.{Sheet}
 use Rattle.language.specs.Acceptance.{AcceptedExactly}
 use Rattle.language.proofs.Acceptance.Soundness as S
 use Rattle.language.proofs.Acceptance.Completeness as C

@@ -1,17 +1,18 @@
 -- A text that writes an admitted sheet is read as that sheet.
 use Rattle.std.proofs.Common.{◌≡◌, ℕ, zero, suc, ◌+◌, ◌<◌, ◌≤◌, true, false, ◌⊎◌, List, [], ◌∷◌, ◌++◌, length, Some, Ok, refl, ap, ◌∙◌, ⊎_elim, append_assoc, not-suc-le-zero, zero-add, arith, length-append}
 use Rattle.std.proofs.lemmas.Bool.{and_parts, ltb-true, le-ltb, ne_eqb}
+use Rattle.std.proofs.lemmas.List.Recursion.{and_at}
 use Rattle.bank.specs.Model.{Forms}
 use Rattle.language.specs.Tokens.{number, Token, tokens, all}
 use Rattle.language.specs.Words.{begin_word, end_word, rows_word}
-use Rattle.language.specs.Syntax.{Sheet, Field, fields_tokens, rows_tokens, block_tokens, printed, block_count, reserved_token}
+use Rattle.language.specs.Syntax.{Sheet, Field, no_field, fields_tokens, rows_tokens, block_tokens, printed, block_count, reserved_token}
 use Rattle.language.specs.Layout.{ticket_length}
 use Rattle.language.specs.Reading.{State, starting, finished, count_rows, sheet_of, sheet_read, reading, with_rows}
 use Rattle.language.specs.Acceptance.{Writes}
 use Rattle.language.specs.Admitted as A
 use Rattle.language.proofs.Acceptance.Runs.{follow, runs, Known}
 use Rattle.language.proofs.Acceptance.BodyRuns.{block_runs}
-use Rattle.language.proofs.Acceptance.Names.{all_parts, all_at, found_at, distinct_left}
+use Rattle.language.proofs.Acceptance.Names.{all_parts, found_at, distinct_left}
 use Rattle.language.proofs.Acceptance.Unplaced.{unplaced_ok, reads, reading_reads, runs_read}
 use Rattle.language.proofs.Acceptance.DeclRuns.{declared, head_runs, row_runs}
 use Rattle.language.proofs.Acceptance.Admits.{Admits, admits}
@@ -41,7 +42,7 @@ module _ (forms : Forms) (sheet : Sheet) (a : Admits forms sheet) where
   known : Known fields
   known f h =
       let below = ltb-true f (length fields) h in
-      let good = all_at (A.field_good forms) fields f (record { name = []; letter = 0; size = 0; places = 0 }) a.declared.good_fields below in
+      let good = and_at (all (A.field_good forms)) (A.field_good forms) refl (λ _ _. refl) fields f no_field below a.declared.good_fields in
       ((and_parts _ _ (and_parts _ _ (and_parts _ _ good).0).0).0, found_at 0 fields f a.declared.apart below ∙ ap Some (zero-add f))
 
   begun_head : (rest : List Token) → runs forms starting (fields_tokens sheet.head ++ rest) ≡ runs forms (declared forms sheet.head 0 []) rest

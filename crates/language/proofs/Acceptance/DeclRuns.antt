@@ -1,12 +1,12 @@
 -- What a reader does on the tokens of a sheet's declarations.
-use Rattle.std.proofs.Common.{◌≡◌, ℕ, ◌+◌, ◌<◌, ◌≤◌, true, List, [], ◌∷◌, ◌++◌, length, is_some, Some, None, Ok, Err, Option, sym, refl, ap, ◌∙◌, append_assoc, append-nil, add_assoc, mul-le-mul_left, zero-add, arith, length-append}
-use Rattle.std.proofs.lemmas.Bool.{false≢true, and_parts, leb-true, lt-leb, le-ltb, ne_eqb}
+use Rattle.std.proofs.Common.{◌≡◌, ℕ, ◌+◌, ◌<◌, ◌≤◌, true, List, [], ◌∷◌, ◌++◌, length, is_some, Some, None, Ok, Err, Option, sym, refl, ap, ◌∙◌, append_assoc, append-nil, mul-le-mul_left, arith, length-append}
+use Rattle.std.proofs.lemmas.Bool.{and_parts, leb-true, lt-leb, le-ltb, ne_eqb}
 use Rattle.bank.specs.Model.{Form, Forms}
 use Rattle.language.specs.declared.Check.TheVariants.{FormLacking}
 use Rattle.language.specs.Tokens.{Token, word, number, all}
 use Rattle.language.specs.Words.{field_word, is_name}
-use Rattle.language.specs.Syntax.{Sheet, Field, empty, fields_tokens}
-use Rattle.language.specs.Layout.{ticket_length, widths, width_of}
+use Rattle.language.specs.Syntax.{Field, empty, fields_tokens}
+use Rattle.language.specs.Layout.{ticket_length, widths}
 use Rattle.language.specs.Reading.{State, declaring, field_name, field_letter, field_places, declaring_word, name_field, size_field, places_field, found, all_fields, with_field, sheet_of, to, goes}
 use Rattle.language.specs.Admitted as A
 use Rattle.language.proofs.Acceptance.Runs.{follow, runs}
@@ -23,7 +23,7 @@ module _ (forms : Forms) (s : State) where
   sizes_field n c z h k = rw (le-ltb 255 z h) (go (forms c z) k)
     where
       go : (o : Option Form) → is_some o ≡ true → elim o [ None ↦ Err FormLacking | Some f ↦ goes s (field_places n c z) ] ≡ goes s (field_places n c z)
-      go None q = absurd (false≢true q)
+      go None q = cc
       go (Some f) q = refl
 
   places_of_field : (f : Field) → f.places ≤ 6 → ticket_length forms (sheet_of (with_field s f)) ≤ 2048 → places_field s forms f.name f.letter f.size f.places ≡ Ok (with_field s f)
@@ -70,9 +70,9 @@ module _ (forms : Forms) where
   abbrev pub declared : List Field → ℕ → List Field → State
   declared h n r = record { head = h; rows = n; row_fields = r; statements = 0; nests = []; so_far = empty; phase = declaring }
 
-  widths_append : (sheet : Sheet) (l m : List Field) → widths forms (l ++ m) ≡ widths forms l + widths forms m
-  widths_append sheet [] m = sym (zero-add (widths forms m))
-  widths_append sheet (f ∷ l) m = ap (λ n. width_of forms f + n) (widths_append sheet l m) ∙ sym (add_assoc (width_of forms f) (widths forms l) (widths forms m))
+  widths_append : (l m : List Field) → widths forms (l ++ m) ≡ widths forms l + widths forms m
+  widths_append [] m = omega arith
+  widths_append (f ∷ l) m = omega (arith, widths_append l m)
 
   -- the fields before `rows`
   pub head_runs : (fs : List Field) (rest : List Token) → length fs ≤ 64 → all (A.field_good forms) fs ≡ true → A.distinct fs ≡ true
@@ -80,7 +80,7 @@ module _ (forms : Forms) where
   head_runs fs rest h g d t = fields_run forms (λ l. declared l 0 []) [] (λ l. refl) (λ l. append-nil l) (λ l f. refl) grows fs [] rest h g d (omega arith)
     where
       grows : (l m : List Field) → ticket_length forms (sheet_of (declared l 0 [])) ≤ ticket_length forms (sheet_of (declared (l ++ m) 0 []))
-      grows l m = omega (arith, widths_append (sheet_of (declared [] 0 [])) l m)
+      grows l m = omega (arith, widths_append l m)
 
   -- the fields after `rows`
   pub row_runs : (head : List Field) (n : ℕ) (fs : List Field) (rest : List Token) → (n ≡ 0 → ⊥) → length (head ++ fs) ≤ 64 → all (A.field_good forms) fs ≡ true → A.distinct (head ++ fs) ≡ true
@@ -92,6 +92,5 @@ module _ (forms : Forms) where
 
       grows : (l m : List Field) → ticket_length forms (sheet_of (declared head n l)) ≤ ticket_length forms (sheet_of (declared head n (l ++ m)))
       grows l m =
-          let sheet = sheet_of (declared [] 0 []) in
-          let longer : widths forms l ≤ widths forms (l ++ m) = omega (arith, widths_append sheet l m) in
+          let longer : widths forms l ≤ widths forms (l ++ m) = omega (arith, widths_append l m) in
           omega (arith, mul-le-mul_left n longer)

@@ -1,15 +1,16 @@
 -- Before `begin` every step adds its token to what is read, and keeps what holds.
 use Rattle.std.proofs.Common.{◌≡◌, ℕ, ◌<◌, ◌≤◌, Bool, true, false, cond, not, ◌||◌, eqb, ltb, leb, ◌⊎◌, List, [], ◌∷◌, ◌++◌, length, is_some, Some, None, Ok, Err, Option, sym, refl, ap, ◌∙◌, inl, inr, ⊎_elim, append_assoc, append-nil, arith, length-append}
 use Rattle.std.proofs.lemmas.Bool.{and_from, or_parts, ltb-false, le-leb, leb-false, eqb-true, eqb-false, ne_eqb, not-false}
+use Rattle.std.proofs.lemmas.List.Recursion.{and_push}
 use Rattle.bank.specs.Model.{Form, Forms}
 use Rattle.language.specs.declared.Check.TheVariants.{Misplaced, DeclaredBefore, FormLacking, OutOfBounds, TooMany}
-use Rattle.language.specs.Tokens.{Token, word, number}
+use Rattle.language.specs.Tokens.{Token, word, number, all}
 use Rattle.language.specs.Words.{Reserved, field_word, rows_word, begin_word, end_word, rounded_word, if_word, then_word, else_word, endif_word, each_word, endeach_word, is_name}
 use Rattle.language.specs.Syntax.{Sheet, Field, Block, empty, block_tokens, fields_tokens, rows_tokens, reserved_token}
 use Rattle.language.specs.Layout.{ticket_length}
 use Rattle.language.specs.Reading.{State, found, Nest, declaring, field_name, field_letter, field_size, field_places, row_count, goes, with_field, sheet_of, declaring_word, name_field, letter_field, on_number}
 use Rattle.language.specs.Admitted as A
-use Rattle.language.proofs.Acceptance.Names.{all_append, distinct_push}
+use Rattle.language.proofs.Acceptance.Names.{distinct_push}
 use Rattle.language.proofs.Acceptance.Words.{Spelled}
 use Rattle.language.proofs.Acceptance.Admits.{Declarations}
 use Rattle.language.proofs.Acceptance.Zipper.{bare, nested, declared_then, whole, Unbegun, UnbegunHere, NewName, NewForm, Body, Fine, Reaches}
@@ -27,7 +28,7 @@ more_declared : (forms : Forms) (old new : Sheet) (f : Field) → Declarations f
     → new.rows ≤ 64 → (0 < new.rows) ⊎ (new.row_fields ≡ []) → ticket_length forms new ≤ 2048 → Declarations forms new
 more_declared forms old new f d same n g few rows fits = record {
   few_fields = rw same (simp length-append (omega (arith, simp length-append at n.room)));
-  good_fields = rw same (all_append (A.field_good forms) (old.head ++ old.row_fields) (f ∷ []) d.good_fields (and_from _ true g refl));
+  good_fields = rw same (and_push (all (A.field_good forms)) (A.field_good forms) refl (λ _ _. refl) (old.head ++ old.row_fields) f ∙ and_from _ _ d.good_fields g);
   apart = rw same (distinct_push 0 (old.head ++ old.row_fields) f d.apart n.new);
   few_rows = few;
   row_fields_in_rows = rows;

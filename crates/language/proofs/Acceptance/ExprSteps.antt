@@ -141,7 +141,7 @@ module _ (forms : Forms) (s : State) (d : Declarations forms (bare s)) (body : B
       → Fine (Reaches forms (λ rest. before os (term_tokens fields t ++ symbol b ∷ rest))) (on_symbol s b (operator p os t))
   operator_symbol_fine os t b o g l leaves =
       let sum = sum_good forms (bare s) i os t o g l in
-      let E = sum_up t os in
+      let ended = sum_up t os in
       let named : (n : ℕ) → eqb b n ≡ true → (rest : List Token) → before os (term_tokens fields t ++ symbol n ∷ rest) ≡ before os (term_tokens fields t ++ symbol b ∷ rest) =
       λ n e rest. ap (λ c. before os (term_tokens fields t ++ symbol c ∷ rest)) (sym (eqb-true b n e)) in
       fine_cond _ (eqb b 42) _ _
@@ -151,5 +151,5 @@ module _ (forms : Forms) (s : State) (d : Declarations forms (bare s)) (body : B
       (λ _. fine_cond _ (eqb b 45) _ _
       (λ e. record { sound = record { declarations = d; at = (body, good_p, (sum.good, sum.shallow, sum.around), omega (arith, sum.shallow)) }; same = λ rest. sum_before os t (symbol 45 ∷ rest) ∙ named 45 e rest })
       (λ _. fine_cond _ (eqb b 41) _ _
-      (λ e. fine_same forms _ _ (close_group s p E (still_open os)) (λ rest. sum_before os t (symbol 41 ∷ rest) ∙ named 41 e rest) (group_fine (still_open os) E sum.around sum.good sum.shallow))
+      (λ e. fine_same forms _ _ (close_group s p ended (still_open os)) (λ rest. sum_before os t (symbol 41 ∷ rest) ∙ named 41 e rest) (group_fine (still_open os) ended sum.around sum.good sum.shallow))
       (λ _. leave_fine os t (symbol b) (λ e. after_by_symbol s p e b) o g l leaves))))

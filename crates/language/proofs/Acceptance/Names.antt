@@ -1,9 +1,10 @@
 -- Fields and their names: which field a name finds, and when all names differ.
-use Rattle.std.proofs.Common.{◌≡◌, ℕ, zero, suc, ◌+◌, ◌<◌, Bool, true, false, cond, not, eqb, List, [], ◌∷◌, ◌++◌, length, get_or, Some, None, Option, sym, refl, ap, ◌∙◌, ap₂, le_of_suc-le-suc, not-suc-le-zero, add-zero, arith}
-use Rattle.std.proofs.lemmas.Bool.{false≢true, and_parts, and_from, not-true, not_from_false, eqb-true, eq-eqb}
+use Rattle.std.proofs.Common.{◌≡◌, ℕ, zero, suc, ◌+◌, ◌<◌, Bool, true, false, cond, not, eqb, List, [], ◌∷◌, ◌++◌, length, Some, None, sym, refl, ap, ◌∙◌, ap₂, le_of_suc-le-suc, not-suc-le-zero, add-zero, arith}
+use Rattle.std.proofs.lemmas.Bool.{and_parts, and_from, not-true, not_from_false, eqb-true, eq-eqb}
+use Rattle.std.proofs.lemmas.List.Recursion.{and_at, and_push}
 use Rattle.language.specs.Tokens.{all}
 use Rattle.language.specs.Words.{same_bytes}
-use Rattle.language.specs.Syntax.{Field, name_of}
+use Rattle.language.specs.Syntax.{Field, no_field, name_of}
 use Rattle.language.specs.Reading.{found_from}
 use Rattle.language.specs.Admitted.{distinct}
 
@@ -13,8 +14,8 @@ same_bytes_refl (x ∷ xs) = and_from (eqb x x) (same_bytes xs xs) (eq-eqb x x r
 
 pub same_bytes_true : (x y : List ℕ) → same_bytes x y ≡ true → x ≡ y
 same_bytes_true [] [] h = refl
-same_bytes_true [] (y ∷ ys) h = absurd (false≢true h)
-same_bytes_true (x ∷ xs) [] h = absurd (false≢true h)
+same_bytes_true [] (y ∷ ys) h = cc
+same_bytes_true (x ∷ xs) [] h = cc
 same_bytes_true (x ∷ xs) (y ∷ ys) h =
     let (e, es) = and_parts _ _ h in
     ap₂ (λ a r. a ∷ r) (eqb-true x y e) (same_bytes_true xs ys es)
@@ -25,7 +26,7 @@ same_bytes_flip x y h = go (same_bytes y x) refl
   where
     go : (b : Bool) → same_bytes y x ≡ b → same_bytes y x ≡ false
     go false e = e
-    go true e = absurd (false≢true (sym h ∙ ap (same_bytes x) (same_bytes_true y x e) ∙ same_bytes_refl x))
+    go true e = cc (ap (same_bytes x) (same_bytes_true y x e), same_bytes_refl x)
 
 module _ (p : Field → Bool) where
   pub all_parts : (xs ys : List Field) → all p (xs ++ ys) ≡ true → (all p xs ≡ true) × (all p ys ≡ true)
@@ -35,24 +36,14 @@ module _ (p : Field → Bool) where
       let (l, r) = all_parts xs ys ps in
       (and_from (p x) (all p xs) px l, r)
 
-  pub all_append : (xs ys : List Field) → all p xs ≡ true → all p ys ≡ true → all p (xs ++ ys) ≡ true
-  all_append [] ys h k = k
-  all_append (x ∷ xs) ys h k =
-      let (px, ps) = and_parts _ _ h in
-      and_from (p x) (all p (xs ++ ys)) px (all_append xs ys ps k)
-
-  pub all_at : (xs : List Field) (k : ℕ) (d : Field) → all p xs ≡ true → k < length xs → p (get_or xs k d) ≡ true
-  all_at [] k d h l = absurd (not-suc-le-zero l)
-  all_at (x ∷ xs) zero d h l = (and_parts _ _ h).0
-  all_at (x ∷ xs) (suc k) d h l = all_at xs k d (and_parts _ _ h).1 (le_of_suc-le-suc l)
-
 -- where all names differ, each field is found by its name
 pub found_at : (i : ℕ) (fs : List Field) (k : ℕ) → distinct fs ≡ true → k < length fs → found_from i (name_of fs k) fs ≡ Some (i + k)
 found_at i [] k h l = absurd (not-suc-le-zero l)
 found_at i (x ∷ xs) zero h l = rw (same_bytes_refl x.name) (ap Some (sym (add-zero i)))
 found_at i (x ∷ xs) (suc k) h l =
     let (h₁, h₂) = and_parts _ _ h in
-    let other = not-true (same_bytes x.name (name_of xs k)) (all_at (λ g. not (same_bytes x.name g.name)) xs k (record { name = []; letter = 0; size = 0; places = 0 }) h₁ (le_of_suc-le-suc l)) in
+    let test : Field → Bool = λ g. not (same_bytes x.name g.name) in
+    let other = not-true (same_bytes x.name (name_of xs k)) (and_at (all test) test refl (λ _ _. refl) xs k no_field (le_of_suc-le-suc l) h₁) in
     rw (same_bytes_flip x.name (name_of xs k) other) (found_at (i + 1) xs k h₂ (le_of_suc-le-suc l) ∙ ap Some (omega arith))
 
 -- a field's name is not found among those before it
@@ -92,7 +83,7 @@ distinct_push i (x ∷ xs) f h k = go (same_bytes f.name x.name) refl k (distinc
     go true e q ih = cc
     go false e q ih =
         and_from (all test (xs ++ f ∷ [])) (distinct (xs ++ f ∷ []))
-        (all_append test xs (f ∷ []) h₁.0 (and_from (test f) true (not_from_false (same_bytes x.name f.name) (same_bytes_flip f.name x.name e)) refl))
+        (and_push (all test) test refl (λ _ _. refl) xs f ∙ and_from _ _ h₁.0 (not_from_false (same_bytes x.name f.name) (same_bytes_flip f.name x.name e)))
         (ih q)
 
 pub distinct_left : (xs ys : List Field) → distinct (xs ++ ys) ≡ true → distinct xs ≡ true

@@ -1,6 +1,6 @@
 -- A reader's run over a list of tokens, and what it does on the tokens of an expression.
 use Rattle.std.proofs.Common.{◌≡◌, ℕ, ◌+◌, ◌<◌, ◌≤◌, Bool, true, false, not, ◌&&◌, ◌||◌, ltb, List, [], ◌∷◌, ◌++◌, length, Some, Ok, Err, sym, refl, ap, ◌∙◌, append_assoc, arith}
-use Rattle.std.proofs.lemmas.Bool.{false≢true, and_parts, leb-true, lt-leb, le-ltb}
+use Rattle.std.proofs.lemmas.Bool.{and_parts, leb-true, lt-leb, le-ltb}
 use Rattle.bank.specs.Model.{Forms}
 use Rattle.language.specs.Tokens.{Token, symbol}
 use Rattle.language.specs.Words.{is_name}
@@ -67,9 +67,9 @@ module _ (forms : Forms) (s : State) where
   complete_plain : (p : Purpose) (f : Factor) (os : List Open) → plain os ≡ true → complete s p f os ≡ Ok (at (operator p os (just f)))
   complete_plain p f [] h = refl
   complete_plain p f (sum_of e g ∷ os) h = refl
-  complete_plain p f (product_of t ∷ os) h = absurd (false≢true h)
+  complete_plain p f (product_of t ∷ os) h = cc
   complete_plain p f (opened ∷ os) h = refl
-  complete_plain p f (negated ∷ os) h = absurd (false≢true h)
+  complete_plain p f (negated ∷ os) h = cc
 
   goes_deeper : (os : List Open) (r : Outcome) → levels os < 12 → deeper s os r ≡ r
   goes_deeper os r h = rw (lt-leb 12 (levels os) h)
@@ -84,9 +84,9 @@ module _ (forms : Forms) (s : State) where
   signs_more takes p [] (only t) h = refl
   signs_more adds p (opened ∷ os) (only t) h = refl
   signs_more takes p (opened ∷ os) (only t) h = refl
-  signs_more g p (sum_of d i ∷ os) (only t) h = absurd (false≢true h)
-  signs_more g p (product_of u ∷ os) (only t) h = absurd (false≢true h)
-  signs_more g p (negated ∷ os) (only t) h = absurd (false≢true h)
+  signs_more g p (sum_of d i ∷ os) (only t) h = cc
+  signs_more g p (product_of u ∷ os) (only t) h = cc
+  signs_more g p (negated ∷ os) (only t) h = cc
   signs_more adds p os (sum e i t) h = refl
   signs_more takes p os (sum e i t) h = refl
 

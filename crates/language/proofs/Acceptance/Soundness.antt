@@ -1,6 +1,6 @@
 -- A text that is read as a sheet writes that sheet, and the sheet is admitted.
 use Rattle.std.proofs.Common.{◌≡◌, ℕ, Bool, true, false, ltb, List, [], ◌∷◌, ◌++◌, length, Ok, Err, Result, sym, refl, ap, ◌∙◌, subst, inr, append_assoc, arith}
-use Rattle.std.proofs.lemmas.Bool.{false≢true, ltb-false}
+use Rattle.std.proofs.lemmas.Bool.{ltb-false}
 use Rattle.bank.specs.Model.{Forms}
 use Rattle.language.specs.declared.Check.{Check}
 use Rattle.language.specs.declared.Check.TheVariants.{Misplaced, TextTooLong}
@@ -109,7 +109,7 @@ module _ (forms : Forms) (sheet : Sheet) where
       subst (Right forms (whole s finished (ends ∷ []))) same (end_tokens forms s h.at.1, end_admits forms s h)
 
   reads_right : (ts : List Token) (s : State) → Sound forms s s.phase → closed ts ≡ true → reads forms s ts ≡ Ok sheet → Right forms (whole s s.phase ts) sheet
-  reads_right [] s h c e = absurd (false≢true c)
+  reads_right [] s h c e = cc
   reads_right (t ∷ ts) s h c e = by t c e (reads_right ts)
     where
       Later : Type 0
@@ -122,7 +122,7 @@ module _ (forms : Forms) (sheet : Sheet) where
 
       last : (ts : List Token) → is_empty ts ≡ true → reads forms s (ends ∷ ts) ≡ Ok sheet → Right forms (whole s s.phase (ends ∷ ts)) sheet
       last [] c e = ends_right s s.phase h e
-      last (x ∷ xs) c e = absurd (false≢true c)
+      last (x ∷ xs) c e = cc
 
       by : (t : Token) → closed (t ∷ ts) ≡ true → reads forms s (t ∷ ts) ≡ Ok sheet → Later → Right forms (whole s s.phase (t ∷ ts)) sheet
       by (word w) c e later = step (word w) (on_word s w s.phase) (word_step forms s s.phase w h) c e later

@@ -1,5 +1,5 @@
 -- A sheet's reading without the places of its tokens.
-use Rattle.std.proofs.Common.{◌≡◌, ℕ, Bool, true, false, ◌&&◌, List, [], ◌∷◌, ◌++◌, Ok, Err, Result, refl, ap, arith}
+use Rattle.std.proofs.Common.{◌≡◌, Bool, true, false, ◌&&◌, List, [], ◌∷◌, ◌++◌, Ok, Err, Result, refl, ap}
 use Rattle.bank.specs.Model.{Forms}
 use Rattle.language.specs.declared.Check.{Check}
 use Rattle.language.specs.declared.Check.TheVariants.{Misplaced}

@@ -1,6 +1,6 @@
 -- A token that is known by its kind: which word a reserved word is, which symbol a relation.
 use Rattle.std.proofs.Common.{◌≡◌, ℕ, true, not, eqb, List, [], ◌∷◌, is_some, Some, None, Option, sym, refl, ap}
-use Rattle.std.proofs.lemmas.Bool.{false≢true, eqb-true, cond_both}
+use Rattle.std.proofs.lemmas.Bool.{eqb-true, cond_both}
 use Rattle.language.specs.declared.Relation.{Relation}
 use Rattle.language.specs.Tokens.{symbol}
 use Rattle.language.specs.Words.{Reserved, spelling, one_of, all_reserved, reserved, is_name, same_bytes}
@@ -25,7 +25,7 @@ not_reserved w h = go (reserved w) h
   where
     go : (r : Option Reserved) → not (is_some r) ≡ true → r ≡ None
     go None h = refl
-    go (Some r) h = absurd (false≢true h)
+    go (Some r) h = cc
 
 abbrev pub Compares : ℕ → Option Relation → Type 0
 Compares b None = Unit {0}

@@ -1,6 +1,6 @@
 -- A course has at most 64 entries for each step.
 use Rattle.std.proofs.Common.{◌≡◌, ℕ, zero, suc, ◌+◌, ◌*◌, ◌≤◌, Bool, true, false, not, List, ◌++◌, length, Ok, Err, Result, mul-le-mul_right, suc-mul, mul-add, arith, length-append}
-use Rattle.std.proofs.lemmas.Bool.{and_parts, false≢true}
+use Rattle.std.proofs.lemmas.Bool.{and_parts}
 use Rattle.bank.specs.Model.{Forms}
 use Rattle.language.specs.declared.Relation.{Relation}
 use Rattle.language.specs.declared.FieldFault.{FieldFault}
@@ -113,7 +113,7 @@ module _ (forms : Forms) (sheet : Sheet) (few_rows : sheet.rows ≤ 64) where
         let body : ℕ = length (P.block sheet (at + 1) (k + 1) b) in
         let wide : 64 ≤ c = whole (and_parts _ _ (and_parts _ _ good).0).0 in
         next_within 1 (sheet.rows * (1 * body + 1)) _ _ _ (done_within _ (passed ticket))
-        (λ t. rows_within k (1 * body) _ (λ r u. block_within b true 1 (k + 1) r (at + 1) u (omega arith) (λ e. absurd (false≢true e)) (and_parts _ _ good).1) sheet.rows 0 t)
+        (λ t. rows_within k (1 * body) _ (λ r u. block_within b true 1 (k + 1) r (at + 1) u (omega arith) (λ e. cc) (and_parts _ _ good).1) sheet.rows 0 t)
         (simp length-append (omega (arith, mul-le-mul_right (1 * body + 1) few_rows, mul-le-mul_right (body + 2) wide)))
 
     block_within : (b : Block) (i : Bool) (c k row at : ℕ) (ticket : List ℕ) → 1 ≤ c → (not i ≡ true → 64 ≤ c) → block_good sheet i b ≡ true

@@ -1,6 +1,6 @@
 -- The numbers of a text are below 10^15, with at most 6 places.
 use Rattle.std.proofs.Common.{◌≡◌, ℕ, suc, ◌+◌, ◌-◌, ◌*◌, ◌^◌, ◌<◌, ◌≤◌, Bool, true, false, cond, leb, List, [], ◌∷◌, ◌++◌, map, length, refl, add-zero, add-suc, suc-add, pow-suc, arith}
-use native.Mathlib.Nat.{pow-le-pow_right}
+use Rattle.std.proofs.Math.Nat.{pow-le-pow_right}
 use Rattle.std.specs.List.{AllByRecursion}
 use Rattle.std.proofs.lemmas.Bool.{and_parts, leb-true, cond_both}
 use Rattle.language.specs.Tokens.{Token, word, number, symbol, none, ends, digit, all, is_word, is_number, before_point, after_point, decimal, number_of, run_token, mark_token, mark, in_run, tokens}

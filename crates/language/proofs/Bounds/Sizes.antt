@@ -1,6 +1,6 @@
 -- A sheet has no more steps than tokens, and no more tokens than bytes.
 use Rattle.std.proofs.Common.{ℕ, ◌+◌, ◌≤◌, List, [], ◌∷◌, ◌++◌, length, ap, arith, length-append}
-use lib.ListN.{length-map}
+use Rattle.std.proofs.lemmas.List.{length-map}
 use Rattle.language.specs.Tokens.{tokens, ends}
 use Rattle.language.specs.Syntax.{Sheet, Field, Expr, Term, Factor, Stmt, Block, only, sum, just, times, read, constant, group, minus, assign, when, either, each, empty, ◌then◌, printed, expr_tokens, term_tokens, factor_tokens, stmt_tokens, block_tokens, block_count}
 use Rattle.language.specs.Acceptance.{Writes}

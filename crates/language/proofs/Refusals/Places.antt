@@ -2,7 +2,6 @@
 use Rattle.std.proofs.Common.{◌≡◌, ℕ, ◌+◌, ◌≤◌, Bool, true, false, List, [], ◌∷◌, map, length, Ok, Err, Result, ap, ◌∙◌, arith, length-append}
 use Rattle.std.specs.List.{AllByRecursion}
 use Rattle.std.proofs.ByRecursion.{All-append, All-map}
-use Rattle.std.proofs.lemmas.Bool.{false≢true}
 use Rattle.bank.specs.Model.{Forms}
 use Rattle.language.specs.declared.TextRefusal.{TextRefusal}
 use Rattle.language.specs.Tokens.{Token, Placed, word, number, symbol, none, ends, tokens_from}
@@ -22,7 +21,7 @@ module _ (forms : Forms) where
 
   -- what holds of the place of every token holds of a refusal's place
   pub refused_at : (P : ℕ → Type 0) (ps : List Placed) (s : State) (r : TextRefusal) → closed (kinds ps) ≡ true → AllByRecursion (λ p. P p.place) ps → reading forms s ps ≡ Err r → P r.place
-  refused_at P [] s r c h e = absurd (false≢true c)
+  refused_at P [] s r c h e = cc
   refused_at P (p ∷ ps) s r c (here, later) e = go p.token c e (refused_at P ps)
     where
       Later : Type 0

@@ -1,6 +1,6 @@
 -- Dropping takes the quotient, and rounding the quotient of half a unit more.
 use Rattle.std.proofs.Common.{◌≡◌, ℕ, zero, suc, ◌+◌, ◌*◌, ◌/◌, ◌^◌, ◌<◌, ◌≤◌, ◌⊎◌, ℤ, pos, negsuc, nat_abs, sym, refl, ap, inl, inr, ⊎_elim, suc-mul, pow-suc, div-mul-le_self, arith}
-use native.Mathlib.Nat.{lt-div-mul-add}
+use Rattle.std.proofs.Math.Nat.{one-le-pow, lt-div-mul-add}
 use Rattle.language.specs.Arithmetic.{with_sign}
 use Rattle.language.specs.Rounded.{Drops, Rounds, RoundsRight}
 
@@ -9,13 +9,9 @@ magnitude (pos n) m = refl
 magnitude (negsuc n) zero = refl
 magnitude (negsuc n) (suc m) = refl
 
-unit_some : (k : ℕ) → 0 < 10 ^ k
-unit_some zero = omega arith
-unit_some (suc k) = let h = unit_some k in omega (arith, pow-suc 10 k)
-
 -- what a quotient leaves is less than the divisor
 quotient : (x k : ℕ) → (x / 10 ^ k * 10 ^ k ≤ x) × (x < x / 10 ^ k * 10 ^ k + 10 ^ k)
-quotient x k = (div-mul-le_self x (10 ^ k), lt-div-mul-add (unit_some k))
+quotient x k = (div-mul-le_self x (10 ^ k), lt-div-mul-add (one-le-pow k 10 (omega arith)))
 
 -- half a unit, twice, is a unit; where no digit is dropped the unit is 1, and its half 0
 half_twice : (k : ℕ) → (10 ^ k / 2 + 10 ^ k / 2 ≡ 10 ^ k) ⊎ ((10 ^ k ≡ 1) × (10 ^ k / 2 ≡ 0))

@@ -1,6 +1,6 @@
 -- What an action leaves: a value that is not too long, a ticket of the same length.
 use Rattle.std.proofs.Common.{◌≡◌, ℕ, zero, suc, ◌+◌, ◌-◌, ◌^◌, ◌<◌, ◌≤◌, Bool, true, false, cond, ◌&&◌, ◌||◌, eqb, List, ◌++◌, length, take, drop, ℤ, pos, negsuc, ◌*ℤ◌, neg_ℤ, nat_abs, IfSome, Some, None, Ok, Err, Option, Result, refl, ◌∙◌, arith, length-append, length-drop, length-take}
-use lib.Signed.{le_z}
+use Rattle.std.specs.Int.Signed.{le_z}
 use Rattle.std.proofs.ByRecursion.{All-append, All-take, All-drop}
 use Rattle.std.proofs.lemmas.Int.{ints}
 use Rattle.std.proofs.lemmas.Bool.{or_parts, cond_both, leb-false, eqb-true}

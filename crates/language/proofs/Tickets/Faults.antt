@@ -1,7 +1,8 @@
 -- What a fault bears: where parts have their form's width, a bank refuses only a string without value and a number out of range.
 use Rattle.std.proofs.Common.{◌≡◌, ℕ, zero, suc, ◌+◌, ◌<◌, Bool, true, cond, ◌&&◌, ◌||◌, eqb, ltb, List, [], ◌∷◌, length, ℤ, pos, ◌*ℤ◌, is_some, Some, None, Ok, Err, Option, Result, sym, refl, ap, ◌∙◌, le_refl, add-one, arith, length-drop, length-take}
-use lib.Signed.{le_z}
-use Rattle.std.proofs.lemmas.Bool.{false≢true, and_parts, cond_both, eq-eqb}
+use Rattle.std.specs.Int.Signed.{le_z}
+use Rattle.std.proofs.lemmas.Bool.{and_parts, cond_both, eq-eqb}
+use Rattle.std.proofs.lemmas.List.Recursion.{and_at}
 use Rattle.bank.specs.Model.{Form, Forms, Lawful}
 use Rattle.bank.specs.Answers.{read_by, written, valued}
 use Rattle.bank.specs.declared.BankRefusal.{BankRefusal}
@@ -12,6 +13,7 @@ use Rattle.language.specs.declared.Rounding.{Rounding}
 use Rattle.language.specs.declared.Relation.{Relation}
 use Rattle.language.specs.declared.Step.{Step}
 use Rattle.language.specs.declared.Step.TheVariants as S
+use Rattle.language.specs.Tokens.{all}
 use Rattle.language.specs.Syntax.{Sheet, Sign, adds, takes, fields, no_field}
 use Rattle.language.specs.Layout.{form_of, width_of, field_at, part, stored, places_of, ticket_length}
 use Rattle.language.specs.Arithmetic.{too_long, padded, fitted, holds}
@@ -23,7 +25,6 @@ use Rattle.language.specs.Machine.{Config, State, running, over, Move, makes, st
 use Rattle.language.specs.Following.{Named, Rests, worked, course_entries, Follows}
 use Rattle.language.specs.Tickets.{Bears, FaultsBear}
 use Rattle.language.proofs.Acceptance.Admits.{Admits, admits}
-use Rattle.language.proofs.Acceptance.Names.{all_at}
 use Rattle.language.proofs.Following.Running.{moved}
 use Rattle.language.proofs.Following.Following.{following}
 use Rattle.language.proofs.Tickets.Parts.{parts_inside}
@@ -55,13 +56,13 @@ valued_bears (Some n) = tt
 
 pub read_bears : (o : Option Form) (bs : List ℕ) → Wide o bs → ReadBears (read_by o bs)
 read_bears o bs w =
-    rw w.known (cond_both (eqb (length bs) w.form.width) _ _ ReadBears (λ _. valued_bears (w.form.value bs)) (λ e. absurd (false≢true (sym e ∙ eq-eqb (length bs) w.form.width w.wide))))
+    rw w.known (cond_both (eqb (length bs) w.form.width) _ _ ReadBears (λ _. valued_bears (w.form.value bs)) (λ e. cc (eq-eqb (length bs) w.form.width w.wide)))
 
 pub write_bears : (o : Option Form) (n : ℤ) (bs : List ℕ) → Wide o bs → WriteBears (written o n bs)
 write_bears o n bs w =
     rw w.known (cond_both (eqb (length bs) w.form.width) _ _ WriteBears
     (λ _. cond_both (le_z w.form.low n && le_z n w.form.high) _ _ WriteBears (λ _. tt) (λ _. refl))
-    (λ e. absurd (false≢true (sym e ∙ eq-eqb (length bs) w.form.width w.wide))))
+    (λ e. cc (eq-eqb (length bs) w.form.width w.wide)))
 
 -- ---- a move
 
@@ -105,10 +106,10 @@ module _ (forms : Forms) (sheet : Sheet) (a : Admits forms sheet) where
   part_wide row f ticket named long = go (form_of forms (field_at sheet f)) refl (and_parts _ _ (and_parts _ _ good).0).1
     where
       good : field_good forms (field_at sheet f) ≡ true
-      good = all_at (field_good forms) (fields sheet) f no_field a.declared.good_fields named.declared
+      good = and_at (all (field_good forms)) (field_good forms) refl (λ _ _. refl) (fields sheet) f no_field named.declared a.declared.good_fields
 
       go : (o : Option Form) → form_of forms (field_at sheet f) ≡ o → is_some o ≡ true → Wide (form_of forms (field_at sheet f)) (part forms sheet f row ticket)
-      go None e h = absurd (false≢true h)
+      go None e h = cc
       go (Some g) e h =
           let width : width_of forms (field_at sheet f) ≡ g.width = ap (λ (o : Option Form). elim o [ None ↦ 0 | Some form ↦ form.width ]) e in
           record { form = g; known = e; wide = simp (length-take, length-drop) (omega (arith, parts_inside forms sheet row f named)) }

@@ -17,11 +17,11 @@ module _ (forms : Forms) where
   pub parts_inside : PartsInside forms
   parts_inside sheet row f named = go (ltb f (length sheet.head)) refl
     where
-      W : ℕ
-      W = widths forms sheet.row_fields
+      row_width : ℕ
+      row_width = widths forms sheet.row_fields
 
       go : (b : Bool) → ltb f (length sheet.head) ≡ b
-          → cond b (widths forms (take f sheet.head)) (widths forms sheet.head + row * W + widths forms (take (f - length sheet.head) sheet.row_fields))
+          → cond b (widths forms (take f sheet.head)) (widths forms sheet.head + row * row_width + widths forms (take (f - length sheet.head) sheet.row_fields))
           + width_of forms (field_at sheet f) ≤ ticket_length forms sheet
       go true e =
           let before = ltb-true f (length sheet.head) e in
@@ -29,6 +29,6 @@ module _ (forms : Forms) where
       go false e =
           let past = ltb-false f (length sheet.head) e in
           let inside : f - length sheet.head < length sheet.row_fields = omega (arith, named.declared, length-append sheet.head sheet.row_fields) in
-          let rows : suc row * W ≤ sheet.rows * W = mul-le-mul_right W (named.in_row past) in
+          let rows : suc row * row_width ≤ sheet.rows * row_width = mul-le-mul_right row_width (named.in_row past) in
           rw (get_or-append_right sheet.head sheet.row_fields (length sheet.head) f no_field refl past)
           (omega (arith, rows, up_to sheet.row_fields (f - length sheet.head) inside))

@@ -1,6 +1,8 @@
 -- What holds of a run wherever it stands: its ticket is as long as it was, and the values that wait are not too long.
 use Rattle.std.proofs.Common.{◌≡◌, ℕ, zero, suc, ◌+◌, cond, ltb, List, [], ◌∷◌, length, ℤ, Some, None, Ok, Err, Option, refl, arith}
 use Rattle.std.specs.List.{slice_get, AllByRecursion}
+use Rattle.std.proofs.ByRecursion.{All-get_or}
+use Rattle.std.proofs.lemmas.Option.{get_or_from_slice_get, slice_get_within}
 use Rattle.std.proofs.lemmas.Bool.{cond_both}
 use Rattle.bank.specs.Model.{Forms, Lawful, Bytes}
 use Rattle.language.specs.declared.Step.{Step}
@@ -24,9 +26,7 @@ always (yields figure a) = tt
 always (fails b) = tt
 
 all_nth : {X : Type 0} (P : X → Type 0) (xs : List X) (i : ℕ) (x : X) → slice_get xs i ≡ Some x → AllByRecursion P xs → P x
-all_nth P [] i x e h = cc
-all_nth P (y ∷ ys) zero x e h = let same : y ≡ x = cc in rw same at h.0
-all_nth P (y ∷ ys) (suc i) x e h = all_nth P ys i x e h.1
+all_nth P xs i x e h = rw (get_or_from_slice_get xs i x x e) at (All-get_or P xs i x (slice_get_within xs i x e) h)
 
 module _ (forms : Forms) (lawful : Lawful forms) (sheet : Sheet) (lines : List Line) (ticket : List ℕ) where
   -- what the values rest on

@@ -1,6 +1,6 @@
 -- `ends` is the last token of a text and no other; and a text has no more tokens than bytes, but for the end.
 use Rattle.std.proofs.Common.{◌≡◌, ℕ, ◌+◌, ◌≤◌, Bool, true, false, cond, List, [], ◌∷◌, ◌++◌, map, length, refl, ap, ◌∙◌, arith, length-append}
-use lib.ListN.{length-map}
+use Rattle.std.proofs.lemmas.List.{length-map}
 use Rattle.std.proofs.lemmas.Bool.{cond_both}
 use Rattle.language.specs.Tokens.{Token, word, symbol, none, in_run, mark, is_word, is_number, number_of, run_token, mark_token, tokens_from, tokens}
 use Rattle.language.specs.Lexemes.{Lexeme, Lexed, token_of, token_at, end_at}

@@ -1,5 +1,5 @@
 -- What changes the ticket.
-use Rattle.std.proofs.Common.{◌≡◌, ℕ, List, [], ◌∷◌, ◌++◌, ℤ, Some, None, Ok, Err, Option, Result, sym, refl, ap, ◌∙◌, arith}
+use Rattle.std.proofs.Common.{◌≡◌, ℕ, List, [], ◌∷◌, ◌++◌, ℤ, Some, None, Ok, Err, Option, Result, sym, refl, ap, ◌∙◌}
 use Rattle.bank.specs.Model.{Forms}
 use Rattle.language.specs.declared.TextRefusal.{TextRefusal}
 use Rattle.language.specs.Syntax.{Sheet}

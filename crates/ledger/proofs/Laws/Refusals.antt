@@ -1,5 +1,5 @@
 -- What a refused call leaves.
-use Rattle.std.proofs.Common.{◌≡◌, ℕ, Bool, true, false, List, sym, refl, ap, ◌∙◌, subst, arith}
+use Rattle.std.proofs.Common.{◌≡◌, ℕ, Bool, true, false, List, sym, refl, ap, ◌∙◌, subst}
 use Rattle.bank.specs.Model.{Forms}
 use Rattle.language.specs.declared.TextRefusal.{TextRefusal}
 use Rattle.ledger.specs.declared.Call.{Call}

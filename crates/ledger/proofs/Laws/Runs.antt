@@ -1,5 +1,5 @@
 -- The ledger's run is the run told from the calls and their answers.
-use Rattle.std.proofs.Common.{◌≡◌, ℕ, ◌+◌, false, List, [], ◌∷◌, ◌++◌, Some, None, Option, sym, refl, ap, ◌∙◌, arith}
+use Rattle.std.proofs.Common.{◌≡◌, ℕ, ◌+◌, false, List, [], ◌∷◌, ◌++◌, Some, None, Option, sym, refl, ap, ◌∙◌}
 use Rattle.bank.specs.Model.{Forms}
 use Rattle.language.specs.Syntax.{Sheet}
 use Rattle.ledger.specs.declared.Call.{Call}
