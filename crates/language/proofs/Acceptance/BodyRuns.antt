@@ -104,7 +104,6 @@ module _ (forms : Forms) (head : List Field) (rows : ℕ) (row_fields : List Fie
         → runs forms (here k ns b statement) (stmt_tokens fields s ++ rest) ≡ runs forms (here (k + stmt_count s) ns (b then s) statement) rest
     stmt_runs (assign f e r) k ns b rest g h n = assign_runs f e r k ns b rest g (omega arith)
     stmt_runs (when l o r c) k ns b rest g h n =
-        let i = inside_each ns in
         let (glr, gc) = and_parts _ _ g in
         let (gl, gr) = and_parts _ _ glr in
         ap (runs forms (here k ns b statement)) (when_tokens fields l o r c rest)
@@ -112,7 +111,6 @@ module _ (forms : Forms) (head : List Field) (rows : ℕ) (row_fields : List Fie
         ∙ block_runs c (k + 1) (in_then b l o r ∷ ns) (reserved_token endif_word ∷ rest) gc (omega arith) (omega arith)
         ∙ ap (λ j. runs forms (here j ns (b then when l o r c) statement) rest) (add_assoc k 1 (block_count c))
     stmt_runs (either l o r c d) k ns b rest g h n =
-        let i = inside_each ns in
         let (glrc, gd) = and_parts _ _ g in
         let (glr, gc) = and_parts _ _ glrc in
         let (gl, gr) = and_parts _ _ glr in
@@ -123,12 +121,11 @@ module _ (forms : Forms) (head : List Field) (rows : ℕ) (row_fields : List Fie
         ∙ block_runs d (k + 1 + block_count c) (in_else b l o r c ∷ ns) (reserved_token endif_word ∷ rest) gd (omega arith) (omega arith)
         ∙ ap (λ j. runs forms (here j ns (b then either l o r c d) statement) rest) (omega arith)
     stmt_runs (each c) k ns b rest g h n =
-        let i = inside_each ns in
         let (gir, gc) = and_parts _ _ g in
         let (gi, gr) = and_parts _ _ gir in
         let some : 0 < rows = ltb-true 0 rows gr in
         ap (runs forms (here k ns b statement)) (each_tokens fields c rest)
-        ∙ ap (λ x. follow x (λ u. runs forms u (block_tokens fields c ++ reserved_token endeach_word ∷ rest))) (begins_each forms (here k ns b statement) (λ e. omega arith) (not-true i gi) (omega arith) (omega arith))
+        ∙ ap (λ x. follow x (λ u. runs forms u (block_tokens fields c ++ reserved_token endeach_word ∷ rest))) (begins_each forms (here k ns b statement) (λ e. omega arith) (not-true (inside_each ns) gi) (omega arith) (omega arith))
         ∙ block_runs c (k + 1) (in_each b ∷ ns) (reserved_token endeach_word ∷ rest) gc (omega arith) (omega arith)
         ∙ ap (λ j. runs forms (here j ns (b then each c) statement) rest) (add_assoc k 1 (block_count c))
 

@@ -232,16 +232,21 @@ module _ (forms : Forms) (head : List Field) (rows : ℕ) (row_fields : List Fie
   end_fine (n ∷ ns) d body = tt
 
 -- a word where a statement may begin or a block end
-pub statement_fine : (forms : Forms) (s : State) → Declarations forms (bare s) → BodyHere forms s 0 → (w : List ℕ) (r : Option Reserved) → Spelled w r → Fine (Reaches forms (λ rest. in_body s (word w ∷ rest))) (statement_word s w r)
-statement_fine forms s d body w (Some field_word) sp = tt
-statement_fine forms s d body w (Some rows_word) sp = tt
-statement_fine forms s d body w (Some begin_word) sp = tt
-statement_fine forms s d body w (Some end_word) sp = fine_same forms _ _ (at_end s s.nests) (λ rest. ap (λ v. in_body s (word v ∷ rest)) (sym sp)) (end_fine forms s.head s.rows s.row_fields s.statements s.so_far s.phase s.nests d body)
-statement_fine forms s d body w (Some rounded_word) sp = tt
-statement_fine forms s d body w (Some if_word) sp = fine_same forms _ _ (begin_if s) (λ rest. ap (λ v. in_body s (word v ∷ rest)) (sym sp)) (if_fine forms s d body)
-statement_fine forms s d body w (Some then_word) sp = tt
-statement_fine forms s d body w (Some else_word) sp = fine_same forms _ _ (at_else s s.nests) (λ rest. ap (λ v. in_body s (word v ∷ rest)) (sym sp)) (else_fine forms s.head s.rows s.row_fields s.statements s.so_far s.phase s.nests d body)
-statement_fine forms s d body w (Some endif_word) sp = fine_same forms _ _ (at_endif s s.nests) (λ rest. ap (λ v. in_body s (word v ∷ rest)) (sym sp)) (endif_fine forms s.head s.rows s.row_fields s.statements s.so_far s.phase s.nests d body)
-statement_fine forms s d body w (Some each_word) sp = fine_same forms _ _ (begin_each s) (λ rest. ap (λ v. in_body s (word v ∷ rest)) (sym sp)) (each_fine forms s d body)
-statement_fine forms s d body w (Some endeach_word) sp = fine_same forms _ _ (at_endeach s s.nests) (λ rest. ap (λ v. in_body s (word v ∷ rest)) (sym sp)) (endeach_fine forms s.head s.rows s.row_fields s.statements s.so_far s.phase s.nests d body)
-statement_fine forms s d body w None sp = assignment_fine forms s d body w
+module _ (forms : Forms) (s : State) (d : Declarations forms (bare s)) (body : BodyHere forms s 0) where
+  -- a word that is spelled as a reserved one is read as that
+  as_spelled : {w : List ℕ} (r : Reserved) (o : Outcome) → w ≡ spelling r → Fine (Reaches forms (λ rest. in_body s (reserved_token r ∷ rest))) o → Fine (Reaches forms (λ rest. in_body s (word w ∷ rest))) o
+  as_spelled r o sp = fine_same forms _ _ o (λ rest. ap (λ v. in_body s (word v ∷ rest)) (sym sp))
+
+  pub statement_fine : (w : List ℕ) (r : Option Reserved) → Spelled w r → Fine (Reaches forms (λ rest. in_body s (word w ∷ rest))) (statement_word s w r)
+  statement_fine w (Some field_word) sp = tt
+  statement_fine w (Some rows_word) sp = tt
+  statement_fine w (Some begin_word) sp = tt
+  statement_fine w (Some end_word) sp = as_spelled end_word (at_end s s.nests) sp (end_fine forms s.head s.rows s.row_fields s.statements s.so_far s.phase s.nests d body)
+  statement_fine w (Some rounded_word) sp = tt
+  statement_fine w (Some if_word) sp = as_spelled if_word (begin_if s) sp (if_fine forms s d body)
+  statement_fine w (Some then_word) sp = tt
+  statement_fine w (Some else_word) sp = as_spelled else_word (at_else s s.nests) sp (else_fine forms s.head s.rows s.row_fields s.statements s.so_far s.phase s.nests d body)
+  statement_fine w (Some endif_word) sp = as_spelled endif_word (at_endif s s.nests) sp (endif_fine forms s.head s.rows s.row_fields s.statements s.so_far s.phase s.nests d body)
+  statement_fine w (Some each_word) sp = as_spelled each_word (begin_each s) sp (each_fine forms s d body)
+  statement_fine w (Some endeach_word) sp = as_spelled endeach_word (at_endeach s s.nests) sp (endeach_fine forms s.head s.rows s.row_fields s.statements s.so_far s.phase s.nests d body)
+  statement_fine w None sp = assignment_fine forms s d body w
