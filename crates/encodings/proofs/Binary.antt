@@ -1,12 +1,10 @@
 -- What the binary forms owe, at 2 and at 4 bytes.
-use Rattle.std.proofs.Common.{◌≡◌, ℕ, zero, suc, ◌+◌, ◌-◌, ◌*◌, ◌/◌, ◌%◌, ◌^◌, ◌<◌, ◌≤◌, Bool, true, false, cond, ◌||◌, eqb, ltb, List, [], ◌∷◌, length, drop, ℤ, pos, negsuc, nat_abs, Some, refl, sym, ap, ◌∙◌, mul_assoc, mul_comm, pow-suc, div-one, w64, of_z, ⊎_elim, eqb-true, arith, ltb-false, ltb-true, le-ltb, lt-ltb}
-use native.Mathlib.Nat.{one-le-pow, pow-le-pow_right}
-use Rattle.std.proofs.Math.Nat.{add-mul-div_right}
+use Rattle.std.proofs.Common.{◌≡◌, ℕ, zero, suc, ◌+◌, ◌-◌, ◌/◌, ◌%◌, ◌^◌, ◌<◌, ◌≤◌, Bool, true, false, cond, ltb, List, [], ◌∷◌, length, drop, ℤ, pos, negsuc, nat_abs, Some, refl, sym, ap, ◌∙◌, pow-suc, div-one, arith, ltb-false, ltb-true, le-ltb, lt-ltb}
+use native.Mathlib.Nat.{pow-le-pow_right}
 use Rattle.std.specs.Int.{bytes_high_first}
 use Rattle.std.specs.Int.Digits.{number_from_digits}
 use Rattle.std.proofs.lemmas.Int.Digits.{number_lt}
 use Rattle.std.proofs.lemmas.Int.{ints}
-use Rattle.std.proofs.lemmas.Bool.{or_cases}
 use Rattle.bank.specs.Model.{Within, LawfulForm, Bytes}
 use Rattle.encodings.specs.Digits.{digits}
 use Rattle.encodings.specs.Binary.{signed, unsigned, complement, from_complement}
@@ -103,35 +101,3 @@ drop_digits (suc j) k n = let e : suc j + k ≡ suc (j + k) = omega arith in rw 
 -- the last k of the 8 bytes of a number
 pub last_bytes : (k n : ℕ) → k ≤ 8 → drop (8 - k) (bytes_high_first 8 n) ≡ digits 256 k n
 last_bytes k n l = let e : 8 ≡ 8 - k + k = omega arith in ap (λ i. drop (8 - k) (bytes_high_first i n)) e ∙ ap (drop (8 - k)) (high_first (8 - k + k) n) ∙ drop_digits (8 - k) k n
-
--- digits do not see what is above them
-pub digits_above : (k m n : ℕ) → digits 256 k (n + m * 256 ^ k) ≡ digits 256 k n
-digits_above zero m n = refl
-digits_above (suc k) m n =
-    let p : 0 < 256 ^ k = one-le-pow k 256 (omega arith) in
-    let e : m * 256 ^ suc k ≡ m * 256 * 256 ^ k = ap (λ q. m * q) (pow-suc 256 k ∙ mul_comm (256 ^ k) 256) ∙ sym (mul_assoc m 256 (256 ^ k)) in
-    let d : (n + m * 256 * 256 ^ k) / 256 ^ k ≡ n / 256 ^ k + m * 256 = add-mul-div_right n (m * 256) p in
-    let b : (n / 256 ^ k + m * 256) % 256 ≡ n / 256 ^ k % 256 = omega arith in
-    rw (e, d, b) (ap (λ bs. (n / 256 ^ k % 256) ∷ bs) (digits_above k (m * 256) n))
-
--- a number below zero at 8 bytes is its complement at k, m strings of k bytes further on
-below_zero : (k m n : ℕ) → 2 ^ 64 ≡ 256 ^ k + m * 256 ^ k → suc n ≤ 256 ^ k → digits 256 k (2 ^ 64 - suc n) ≡ digits 256 k (256 ^ k - suc n)
-below_zero k m n e l =
-    let s : 2 ^ 64 - suc n ≡ 256 ^ k - suc n + m * 256 ^ k = omega (arith, e) in
-    ap (digits 256 k) s ∙ digits_above k m (256 ^ k - suc n)
-
-pub signed_written : (k : ℕ) (z : ℤ) → (eqb k 2 || eqb k 4) ≡ true → Within (signed k) z → digits 256 k (of_z w64 z) ≡ (signed k).image z
-signed_written k (pos n) h w = refl
-signed_written k (negsuc n) h w =
-    ⊎_elim (λ e. at_size 2 (2 ^ 48 - 1) (eqb-true k 2 e) refl (omega arith)) (λ e. at_size 4 (2 ^ 32 - 1) (eqb-true k 4 e) refl (omega arith))
-    (or_cases (eqb k 2) (eqb k 4) h)
-  where
-    at_size : (i m : ℕ) → k ≡ i → 2 ^ 64 ≡ 256 ^ i + m * 256 ^ i → 2 ≤ 256 ^ i → digits 256 k (of_z w64 (negsuc n)) ≡ (signed k).image (negsuc n)
-    at_size i m e f g =
-        let p : 256 ^ k ≡ 256 ^ i = ap (λ j. 256 ^ j) e in
-        let few : suc n ≤ 256 ^ k = omega (arith, ints, w.above, p, g) in
-        below_zero k m n (f ∙ ap (λ q. q + m * q) (sym p)) few
-
-pub unsigned_written : (k : ℕ) (z : ℤ) → Within (unsigned k) z → digits 256 k (of_z w64 z) ≡ (unsigned k).image z
-unsigned_written k (pos n) w = refl
-unsigned_written k (negsuc n) w = absurd w.above.le

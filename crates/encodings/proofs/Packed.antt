@@ -4,7 +4,6 @@ use native.Mathlib.Nat.{div-eq_of_lt}
 use borrow.Author.Tests.{eqb-false}
 use Rattle.std.specs.Int.Digits.{AllBelowBase}
 use Rattle.std.proofs.ByRecursion.{All-append, All-weaker}
-use Rattle.std.proofs.lemmas.Bool.{and_parts}
 use Rattle.std.proofs.lemmas.Bool.Decides.{nat_tests}
 use Rattle.bank.specs.Model.{LawfulForm, Bytes}
 use Rattle.encodings.specs.Digits.{digits}
@@ -14,10 +13,6 @@ use Rattle.encodings.proofs.Digits.{length_digits, under_digits, number_digits}
 use Rattle.encodings.proofs.Decimal.{digit_on, digit_bad, digits_on, with_sign_of, sign_small, digits_size, decimal_lawful}
 
 -- ---- reading: the spare half, and a byte before the last
-
-pub packed_spare : (size : ℕ) (xs : List ℕ) → 0 < length xs → (even size && ltb 0 (get_or xs 0 0 / 16)) ≡ true → packed_value size xs ≡ None
-packed_spare size [] l e = absurd (omega arith)
-packed_spare size (b ∷ bs) l e = let p = and_parts (even size) (ltb 0 (b / 16)) e in rw p.0 (grind (arith, nat_tests, p.1))
 
 pub packed_start : (size : ℕ) (xs : List ℕ) → 0 < length xs → (even size && ltb 0 (get_or xs 0 0 / 16)) ≡ false → packed_value size xs ≡ digits_then_sign 0 (halves xs)
 packed_start size [] l e = absurd (omega arith)

@@ -16,14 +16,14 @@ ghost use Rattle.language.specs.Tickets.{TicketsKept};
 use bank::BankRefusal;
 
 // How an assignment brings a value to its field's places: digits dropped toward zero, or rounded to the nearest, halves away from zero.
-#[derive(Clone, Copy, PartialEq, Eq, Debug)]
+#[derive(Clone, Copy, Debug, PartialEq, Eq)]
 pub enum Rounding {
     Dropped = 0,
     Nearest = 1,
 }
 
 // `<`, `=` and `>` in a condition.
-#[derive(Clone, Copy, PartialEq, Eq, Debug)]
+#[derive(Clone, Copy, Debug, PartialEq, Eq)]
 pub enum Relation {
     Less = 0,
     Equal = 1,
@@ -31,7 +31,7 @@ pub enum Relation {
 }
 
 // One step of a translated sheet.
-#[derive(Clone, Copy, PartialEq, Eq, Debug)]
+#[derive(Clone, Copy, Debug, PartialEq, Eq)]
 pub enum Step {
     // the units of a number in the sheet
     Constant(u64),
@@ -56,14 +56,14 @@ pub enum Step {
 }
 
 // A step with the statement that it belongs to, 0 for `end`.
-#[derive(Clone, Copy, PartialEq, Eq, Debug)]
+#[derive(Clone, Copy, Debug, PartialEq, Eq)]
 pub struct Line {
     pub statement: u8,
     pub step: Step,
 }
 
 // Why a sheet's text is refused: 10 to 19.
-#[derive(Clone, Copy, PartialEq, Eq, Debug)]
+#[derive(Clone, Copy, Debug, PartialEq, Eq)]
 pub enum Check {
     TextTooLong = 10,
     NoToken = 11,
@@ -86,14 +86,14 @@ impl From<Check> for u8 {
 }
 
 // A text's refusal and the byte place that it stands at.
-#[derive(Clone, Copy, PartialEq, Eq, Debug)]
+#[derive(Clone, Copy, Debug, PartialEq, Eq)]
 pub struct TextRefusal {
     pub check: Check,
     pub place: usize,
 }
 
 // One thing done in the course of a ticket: the statement (0 for `end`), the row (255 outside `each`), and the figure.
-#[derive(Clone, Copy, PartialEq, Eq, Debug)]
+#[derive(Clone, Copy, Debug, PartialEq, Eq)]
 pub struct Entry {
     pub statement: u8,
     pub row: u8,
@@ -101,7 +101,7 @@ pub struct Entry {
 }
 
 // What ends a course before `end`: 30, 31 and 32. A field's fault bears the bank's refusal.
-#[derive(Clone, Copy, PartialEq, Debug)]
+#[derive(Clone, Copy, Debug, PartialEq, Eq)]
 pub enum Fault {
     NoValue(BankRefusal),
     TooLong,
@@ -121,7 +121,7 @@ impl From<Fault> for u8 {
 }
 
 // A fault with the field that was read or assigned, 255 for none.
-#[derive(Clone, Copy, PartialEq, Debug)]
+#[derive(Clone, Copy, Debug, PartialEq, Eq)]
 pub struct FieldFault {
     pub fault: Fault,
     pub field: u8,

@@ -11,13 +11,13 @@ use bank::BankRefusal;
 use language::{Entry, FieldFault, TextRefusal};
 
 // A part of lent bytes: where it starts and how long it is, cut where the bytes end.
-#[derive(Clone, Copy, PartialEq, Eq, Debug)]
+#[derive(Clone, Copy, Debug, PartialEq, Eq)]
 pub struct Place {
     pub start: usize,
     pub length: usize,
 }
 
-#[derive(Clone, Copy, PartialEq, Eq, Debug)]
+#[derive(Clone, Copy, Debug, PartialEq, Eq)]
 pub enum Call {
     // reads a sheet's text, and forgets the ticket
     Load(Place),
@@ -34,7 +34,7 @@ pub enum Call {
 }
 
 // Why a call is refused: 10 to 19 for a sheet's text, and 20 to 28.
-#[derive(Clone, Copy, PartialEq, Debug)]
+#[derive(Clone, Copy, Debug, PartialEq, Eq)]
 pub enum CallRefusal {
     Text(TextRefusal),
     NoSheet,
@@ -48,7 +48,7 @@ pub enum CallRefusal {
     BadBudget,
 }
 
-#[derive(Clone, Copy, PartialEq, Debug)]
+#[derive(Clone, Copy, Debug, PartialEq, Eq)]
 pub enum Answer {
     Loaded,
     Laid,
