@@ -36,8 +36,8 @@ pub record RowOf (line : List ℕ) (row : Row) : Type 0 where
   pub direction : List ℕ
   pub note : List ℕ
   pub columns : line ≡ letter ++ (9 ∷ (size ++ (9 ∷ (bytes ++ (9 ∷ (number ++ (9 ∷ (direction ++ (9 ∷ note)))))))))
-  pub letter_is : letter ≡ encode row.letter
-  pub size_is : SizeOf size row.size
+  pub letter_is : letter ≡ encode row.form.letter
+  pub size_is : SizeOf size row.form.size
   pub some_bytes : Option (List ℕ)
   pub bytes_are : BytesOf bytes some_bytes
   pub some_number : Option ℤ
@@ -46,4 +46,4 @@ pub record RowOf (line : List ℕ) (row : Row) : Type 0 where
 
 -- the line is a row that agrees with the form that the bank has for its letter and size
 abbrev pub Upheld : Forms → List ℕ → Type 0
-Upheld forms line = (row : Row) × RowOf line row × Agrees (forms row.letter row.size) row.claim
+Upheld forms line = (row : Row) × RowOf line row × Agrees (forms row.form.letter row.form.size) row.claim

@@ -18,9 +18,7 @@ fn digit(c: u8) -> Option<u8>
 fn byte(high: u8, low: u8) -> Option<u8>
     ensures { result ≡ byte_value high low }
 {
-    let h = digit(high)?;
-    let l = digit(low)?;
-    Some(16 * h + l)
+    Some(16 * digit(high)? + digit(low)?)
 }
 
 // The bytes of a text such as `12 3C`, or none where it is not of that kind.
@@ -31,11 +29,11 @@ pub fn bytes(heap: Global, text: &[u8]) -> Result<Option<Vec<u8>>, AllocError>
         return Ok(None);
     }
     let mut found = Vec::new(heap);
-    for i in 0..text.len() / 3 + 1 {
-        if i > 0 && text[3 * i - 1] != b' ' {
+    for part in text.chunks(3) {
+        let ([high, low] | [high, low, b' ']) = part else {
             return Ok(None);
-        }
-        let Some(b) = byte(text[3 * i], text[3 * i + 1]) else {
+        };
+        let Some(b) = byte(*high, *low) else {
             return Ok(None);
         };
         found.push(b)?;

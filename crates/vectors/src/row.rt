@@ -1,24 +1,27 @@
 // An example as a line of the table has it.
 ghost use Rattle.std.specs.Prelude.{◌≡◌, true, ◌∷◌, ◌++◌, IfOk, vec_items};
-ghost use Rattle.std.proofs.Math.Utf8.{encode};
 ghost use Rattle.std.specs.Option.{option_map};
-ghost use Rattle.vectors.specs.Rows.{SizeOf, BytesOf, NumberOf, ClaimOf, RowOf, Upheld};
+ghost use Rattle.vectors.specs.Rows.{BytesOf, NumberOf, ClaimOf, RowOf, Upheld};
 
 use crate::hex;
-use bank::Bank;
+use bank::{Bank, FormName};
 use judge::{Claim, Row};
 use std::alloc::{AllocError, Global};
+use std::char::ParseCharError;
+use std::num::ParseIntError;
+use thiserror::Error;
 
-#[derive(Drop)]
+// Why no row was made of a line.
+#[derive(Debug, Drop, Error)]
 pub enum Fault {
+    #[error("a column is missing or malformed")]
     Malformed,
-    NoMemory,
-}
-
-impl From<AllocError> for Fault {
-    fn from(_: AllocError) -> Fault {
-        Fault::NoMemory
-    }
+    #[error(transparent)]
+    Letter(#[from] ParseCharError),
+    #[error(transparent)]
+    Number(#[from] ParseIntError),
+    #[error(transparent)]
+    NoMemory(#[from] AllocError),
 }
 
 // The first column, and the columns after it.
@@ -28,32 +31,14 @@ fn cut(line: &str) -> Result<(&str, &str), Fault>
     line.split_once('\t').ok_or(Fault::Malformed)
 }
 
-fn letter_of(text: &str) -> Result<char, Fault>
-    ensures { IfOk result (λ c. text.now ≡ encode c) }
-{
-    let mut letters = text.chars();
-    match (letters.next(), letters.next()) {
-        (Some(c), None) => Ok(c),
-        _ => Err(Fault::Malformed),
-    }
-}
-
-fn size_of(text: &str) -> Result<u8, Fault>
-    ensures { IfOk result (SizeOf text.now) }
-{
-    text.parse::<u8>().ok().ok_or(Fault::Malformed)
-}
-
 fn bytes_of(heap: Global, text: &str) -> Result<Option<Vec<u8>>, Fault>
     ensures { IfOk result (λ o. BytesOf text.now (option_map vec_items o)) }
 {
     if text == "none" {
         return Ok(None);
     }
-    match hex::bytes(heap, text.as_bytes())? {
-        Some(bytes) => Ok(Some(bytes)),
-        None => Err(Fault::Malformed),
-    }
+    let bytes = hex::bytes(heap, text.as_bytes())?;
+    bytes.ok_or(Fault::Malformed).map(Some)
 }
 
 fn number_of(text: &str) -> Result<Option<i64>, Fault>
@@ -62,10 +47,7 @@ fn number_of(text: &str) -> Result<Option<i64>, Fault>
     if text == "none" {
         return Ok(None);
     }
-    match text.parse::<i64>() {
-        Ok(number) => Ok(Some(number)),
-        Err(_) => Err(Fault::Malformed),
-    }
+    Ok(Some(text.parse()?))
 }
 
 fn claim_of(direction: &str, bytes: Option<Vec<u8>>, number: Option<i64>) -> Result<Claim, Fault>
@@ -88,15 +70,13 @@ pub fn parse(heap: Global, line: &str) -> Result<Row, Fault>
     let (bytes, rest) = cut(rest)?;
     let (number, rest) = cut(rest)?;
     let (direction, _) = cut(rest)?;
-    let letter = letter_of(letter)?;
-    let size = size_of(size)?;
+    let form = FormName {
+        letter: letter.parse()?,
+        size: size.parse()?,
+    };
     let number = number_of(number)?;
     let claim = claim_of(direction, bytes_of(heap, bytes)?, number)?;
-    Ok(Row {
-        letter,
-        size,
-        claim,
-    })
+    Ok(Row { form, claim })
 }
 
 // The line is a row that the bank agrees with; one that cannot be parsed is not.
@@ -105,7 +85,7 @@ pub fn agrees<B: Bank>(bank: &B, heap: Global, line: &str) -> Result<bool, Alloc
 {
     match parse(heap, line) {
         Ok(row) => Ok(judge::agrees(bank, &row)),
-        Err(Fault::Malformed) => Ok(false),
-        Err(Fault::NoMemory) => Err(AllocError),
+        Err(Fault::NoMemory(error)) => Err(error),
+        Err(_) => Ok(false),
     }
 }
