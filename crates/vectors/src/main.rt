@@ -11,14 +11,14 @@ use std::{fs, io};
 fn account(rt: &HostRuntime, text: &str) -> io::Result<()> {
     let mut all = 0usize;
     let mut differ = 0usize;
-    for (index, line) in text.lines().enumerate() {
+    for (number, line) in (1usize..).zip(text.lines()) {
         if line.starts_with('#') {
             continue;
         }
         all += 1;
         if !row::agrees(&Shipped, rt.alloc(), line)? {
             differ += 1;
-            println!(rt; "line {}: {line}", index + 1)?;
+            println!(rt; "line {number}: {line}")?;
         }
     }
     let agree = all - differ;
