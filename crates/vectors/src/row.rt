@@ -1,5 +1,6 @@
 // An example as a line of the table has it.
-ghost use Rattle.std.specs.Prelude.{◌≡◌, true, ◌∷◌, ◌++◌, IfOk, vec_items};
+ghost use Rattle.std.specs.Prelude.{◌≡◌, true, ◌∷◌, ◌++◌, IfOk, MatchOption, Ok, codes, vec_items};
+ghost use Rattle.std.specs.Fn.{FnOnceReturnsAt};
 ghost use Rattle.std.specs.Option.{option_map};
 ghost use Rattle.vectors.specs.Rows.{BytesOf, NumberOf, ClaimOf, RowOf, Upheld};
 
@@ -31,23 +32,32 @@ fn cut(line: &str) -> Result<(&str, &str), Fault>
     line.split_once('\t').ok_or(Fault::Malformed)
 }
 
-fn bytes_of(heap: Global, text: &str) -> Result<Option<Vec<u8>>, Fault>
-    ensures { IfOk result (λ o. BytesOf text.now (option_map vec_items o)) }
+// What a column holds, as `read` makes it of the text, or none where it says so.
+fn optional<T: Drop, F: FnOnce(&str) -> Result<T, Fault>>(
+    text: &str,
+    read: F,
+) -> Result<Option<T>, Fault>
+    requires { F.IsAlwaysCallable read }
+    ensures { IfOk result (λ o. MatchOption o (text.now ≡ codes "none") (λ value. FnOnceReturnsAt F.FnOnce read text.now (Ok value))) }
 {
     if text == "none" {
         return Ok(None);
     }
-    let bytes = hex::bytes(heap, text.as_bytes())?;
-    bytes.ok_or(Fault::Malformed).map(Some)
+    Ok(Some(read(text)?))
+}
+
+fn bytes_of(heap: Global, text: &str) -> Result<Option<Vec<u8>>, Fault>
+    ensures { IfOk result (λ o. BytesOf text.now (option_map vec_items o)) }
+{
+    optional(text, |text| {
+        hex::bytes(heap, text.as_bytes())?.ok_or(Fault::Malformed)
+    })
 }
 
 fn number_of(text: &str) -> Result<Option<i64>, Fault>
     ensures { IfOk result (NumberOf text.now) }
 {
-    if text == "none" {
-        return Ok(None);
-    }
-    Ok(Some(text.parse()?))
+    optional(text, |text| Ok(text.parse()?))
 }
 
 fn claim_of(direction: &str, bytes: Option<Vec<u8>>, number: Option<i64>) -> Result<Claim, Fault>
