@@ -1,5 +1,5 @@
 -- A number that was written is read back.
-use Rattle.std.proofs.Common.{◌≡◌, ℕ, Bool, true, false, cond, ◌&&◌, eqb, length, ℤ, Some, None, Ok, Err, refl, arith, eq-eqb}
+use Rattle.std.proofs.Common.{◌≡◌, Bool, true, false, cond, ◌&&◌, eqb, length, ℤ, Some, None, Ok, Err, refl, eq-eqb}
 use lib.Signed.{le_z, le_z_yes}
 use Rattle.std.proofs.lemmas.Bool.{and_parts}
 use Rattle.bank.specs.Model.{Form, Within, LawfulForm}

@@ -44,7 +44,7 @@ impl Shape {
     pub fn holds(&self, number: i64) -> bool
         ensures { result ≡ (int_le self.now.low number && int_le number self.now.high) }
     {
-        self.low <= number && number <= self.high
+        (self.low..=self.high).contains(&number)
     }
 }
 

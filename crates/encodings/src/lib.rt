@@ -40,8 +40,8 @@ impl Kind {
         ensures { result ≡ has_size self size }
     {
         match self {
-            Kind::Zoned | Kind::Packed => 1 <= size && size <= 15,
-            Kind::Signed | Kind::Unsigned => size == 2 || size == 4,
+            Kind::Zoned | Kind::Packed => matches!(size, 1..=15),
+            Kind::Signed | Kind::Unsigned => matches!(size, 2 | 4),
         }
     }
 }

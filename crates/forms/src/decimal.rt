@@ -1,7 +1,62 @@
 // Decimal numbers, zoned and packed: digits in the order of the bytes, and a sign in the last byte beside one of them.
 ghost use Rattle.std.specs.Prelude.{◌≡◌, ℕ, ◌^◌, ◌<◌, ◌≤◌, length, unsigned_abs};
-ghost use Rattle.encodings.specs.Decimal.{digits_then_sign, with_sign, sign_of};
+ghost use Rattle.encodings.specs.Decimal.{digits_then_sign, sign_of};
 ghost use Rattle.encodings.specs.Layouts.{DigitLayout, LawfulDigitLayout};
+ghost use Rattle.forms.specs.Signs.{half_of, signed, SignOf};
+
+// A sign, and the half byte that is written for it.
+#[derive(Clone, Copy, Debug, PartialEq, Eq)]
+pub(crate) enum Sign {
+    Plus = 12,
+    Minus = 13,
+}
+
+// A half byte that is no sign.
+#[derive(Clone, Copy, Debug, PartialEq, Eq)]
+pub(crate) struct NoSign;
+
+// A, C, E and F are plus, B and D are minus, and a half below A is no sign.
+impl TryFrom<u8> for Sign {
+    type Error = NoSign;
+
+    ghost try_from_gives = { SignOf };
+
+    fn try_from(half: u8) -> Result<Sign, NoSign> {
+        match half {
+            0..=9 => Err(NoSign),
+            11 | 13 => Ok(Sign::Minus),
+            _ => Ok(Sign::Plus),
+        }
+    }
+}
+
+impl From<Sign> for u8 {
+    ghost from_gives = { λ sign half. half ≡ half_of sign };
+
+    fn from(sign: Sign) -> u8 {
+        sign as u8
+    }
+}
+
+impl Sign {
+    // Plus for zero and above, so that no zero is written with a minus.
+    fn of(number: i64) -> Sign
+        ensures { half_of result ≡ sign_of number }
+    {
+        if number >= 0 { Sign::Plus } else { Sign::Minus }
+    }
+
+    fn apply(self, magnitude: u64) -> i64
+        requires { magnitude < 2 ^ 63 }
+        ensures { result ≡ signed self magnitude }
+    {
+        let number = magnitude as i64;
+        match self {
+            Sign::Plus => number,
+            Sign::Minus => -number,
+        }
+    }
+}
 
 // How digits stand in the bytes of a kind of decimal number.
 pub(crate) trait Layout {
@@ -26,35 +81,14 @@ pub(crate) trait Layout {
         ensures digit { result.0 ≡ layout.digit_half byte }
         ensures sign { result.1 ≡ layout.sign_half byte };
 
-    // The last byte of a digit and a sign half.
-    fn last(digit: u8, sign: u8) -> u8
-        requires digit { digit < 10 }
-        requires sign { sign < 16 }
-        ensures { result ≡ layout.last digit sign };
+    // The last byte of a digit and a sign.
+    fn last(digit: u8, sign: Sign) -> u8
+        requires { digit < 10 }
+        ensures { result ≡ layout.last digit (half_of sign) };
 
     ghost base_is: { BASE ≡ layout.base };
 
     ghost lawful: { LawfulDigitLayout layout };
-}
-
-// The number by its sign half: plus for A, C, E and F, minus for B and D, none below A.
-fn with_sign(sign: u8, magnitude: u64) -> Option<i64>
-    requires { magnitude < 2 ^ 63 }
-    ensures { result ≡ with_sign sign magnitude }
-{
-    let number = magnitude as i64;
-    match sign {
-        0..=9 => None,
-        11 | 13 => Some(-number),
-        _ => Some(number),
-    }
-}
-
-// The sign half that is written: C for zero and above, D below.
-fn sign_of(number: i64) -> u8
-    ensures { result ≡ sign_of number }
-{
-    if number >= 0 { 12 } else { 13 }
 }
 
 // The number of a part, if each of its halves but the last is a digit, and the last a sign.
@@ -71,7 +105,8 @@ pub(crate) fn value<L: Layout>(part: &[u8]) -> Option<i64>
     if digit > 9 {
         return None;
     }
-    with_sign(sign, n * 10 + u64::from(digit))
+    let sign = Sign::try_from(sign).ok()?;
+    Some(sign.apply(n * 10 + u64::from(digit)))
 }
 
 // Writes the magnitude's lowest digits, as many as the part holds, and the sign.
@@ -81,7 +116,7 @@ pub(crate) fn put<L: Layout>(number: i64, part: &mut [u8])
 {
     let magnitude = number.unsigned_abs();
     let last = part.len() - 1;
-    part[last] = L::last((magnitude % 10) as u8, sign_of(number));
+    part[last] = L::last((magnitude % 10) as u8, Sign::of(number));
     let mut rest = magnitude / 10;
     for i in (0..last).rev() {
         part[i] = L::byte(rest % L::BASE);

@@ -4,7 +4,7 @@ ghost use Rattle.encodings.specs.Decimal.{packed_value, even};
 ghost use Rattle.encodings.specs.Layouts.{packed_layout};
 ghost use Rattle.encodings.proofs.Layouts.{packed_laid};
 
-use crate::decimal::{self, Layout};
+use crate::decimal::{self, Layout, Sign};
 
 pub(crate) struct Packed;
 
@@ -24,11 +24,7 @@ impl Layout for Packed {
     fn digit(byte: u8) -> Option<u64> {
         let high = byte / 16;
         let low = byte % 16;
-        if high <= 9 && low <= 9 {
-            Some(u64::from(high * 10 + low))
-        } else {
-            None
-        }
+        (high <= 9 && low <= 9).then(|| u64::from(high * 10 + low))
     }
 
     fn byte(digit: u64) -> u8 {
@@ -39,8 +35,8 @@ impl Layout for Packed {
         (byte / 16, byte % 16)
     }
 
-    fn last(digit: u8, sign: u8) -> u8 {
-        digit * 16 + sign
+    fn last(digit: u8, sign: Sign) -> u8 {
+        digit * 16 + u8::from(sign)
     }
 }
 

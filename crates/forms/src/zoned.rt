@@ -2,7 +2,7 @@
 ghost use Rattle.encodings.specs.Layouts.{zoned_layout};
 ghost use Rattle.encodings.proofs.Layouts.{zoned_laid};
 
-use crate::decimal::Layout;
+use crate::decimal::{Layout, Sign};
 
 pub(crate) struct Zoned;
 
@@ -21,11 +21,7 @@ impl Layout for Zoned {
 
     fn digit(byte: u8) -> Option<u64> {
         let digit = byte % 16;
-        if digit <= 9 {
-            Some(u64::from(digit))
-        } else {
-            None
-        }
+        (digit <= 9).then_some(u64::from(digit))
     }
 
     fn byte(digit: u64) -> u8 {
@@ -36,7 +32,7 @@ impl Layout for Zoned {
         (byte % 16, byte / 16)
     }
 
-    fn last(digit: u8, sign: u8) -> u8 {
-        sign * 16 + digit
+    fn last(digit: u8, sign: Sign) -> u8 {
+        u8::from(sign) * 16 + digit
     }
 }
