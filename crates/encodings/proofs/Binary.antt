@@ -1,9 +1,10 @@
 -- What the binary forms owe, at 2 and at 4 bytes.
-use Rattle.std.proofs.Common.{◌≡◌, ℕ, zero, suc, ◌+◌, ◌-◌, ◌/◌, ◌%◌, ◌^◌, ◌<◌, ◌≤◌, Bool, true, false, cond, ltb, List, [], ◌∷◌, length, drop, ℤ, pos, negsuc, nat_abs, Some, refl, sym, ap, ◌∙◌, pow-suc, div-one, arith, ltb-false, ltb-true, le-ltb, lt-ltb}
+use Rattle.std.proofs.Common.{◌≡◌, ℕ, zero, suc, ◌+◌, ◌-◌, ◌/◌, ◌%◌, ◌^◌, ◌<◌, ◌≤◌, Bool, true, false, cond, ltb, List, [], ◌∷◌, length, drop, take, ℤ, pos, negsuc, nat_abs, Some, refl, sym, ap, ◌∙◌, pow-suc, div-one, arith, ltb-false, ltb-true, le-ltb, lt-ltb}
 use native.Mathlib.Nat.{pow-le-pow_right}
 use Rattle.std.specs.Int.{bytes_high_first}
 use Rattle.std.specs.Int.Digits.{number_from_digits}
 use Rattle.std.proofs.lemmas.Int.Digits.{number_lt}
+use Rattle.std.proofs.lemmas.List.{take_all}
 use Rattle.std.proofs.lemmas.Int.{ints}
 use Rattle.bank.specs.Model.{Within, LawfulForm, Bytes}
 use Rattle.encodings.specs.Digits.{digits}
@@ -98,6 +99,9 @@ pub drop_digits : (j k n : ℕ) → drop j (digits 256 (j + k) n) ≡ digits 256
 drop_digits zero k n = let e : 0 + k ≡ k = omega arith in ap (λ i. digits 256 i n) e
 drop_digits (suc j) k n = let e : suc j + k ≡ suc (j + k) = omega arith in rw e (drop_digits j k n)
 
--- the last k of the 8 bytes of a number
-pub last_bytes : (k n : ℕ) → k ≤ 8 → drop (8 - k) (bytes_high_first 8 n) ≡ digits 256 k n
-last_bytes k n l = let e : 8 ≡ 8 - k + k = omega arith in ap (λ i. drop (8 - k) (bytes_high_first i n)) e ∙ ap (drop (8 - k)) (high_first (8 - k + k) n) ∙ drop_digits (8 - k) k n
+-- the last k of the 8 bytes of a number, as a slice of them
+pub last_bytes : (k n : ℕ) → k ≤ 8 → take (8 - (8 - k)) (drop (8 - k) (bytes_high_first 8 n)) ≡ digits 256 k n
+last_bytes k n l =
+    let e : 8 ≡ 8 - k + k = omega arith in
+    let d : drop (8 - k) (bytes_high_first 8 n) ≡ digits 256 k n = ap (λ i. drop (8 - k) (bytes_high_first i n)) e ∙ ap (drop (8 - k)) (high_first (8 - k + k) n) ∙ drop_digits (8 - k) k n in
+    ap (take (8 - (8 - k))) d ∙ take_all (8 - (8 - k)) (digits 256 k n) (omega (arith, length_digits 256 k n))

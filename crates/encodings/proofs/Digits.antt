@@ -36,3 +36,10 @@ digits_more b i n d l h = rw (add-one i, pow-suc b i) (digits_lt l h)
 -- k digits that fit have room for one more after i of them
 pub room : (b i k n d : ℕ) → 0 < b → n < b ^ i → d < b → i + 1 ≤ k → b ^ k ≤ 10 ^ 16 → n * b + d < 2 ^ 64
 room b i k n d h l m j r = omega (arith, digits_within b (i + 1) k (n * b + d) h (digits_more b i n d l m) j, r)
+
+-- as many bytes as a zoned and a packed number have
+pub zoned_room : (k : ℕ) → k ≤ 15 → 10 ^ k ≤ 10 ^ 16
+zoned_room k h = pow-le-pow_right {n = 10} (omega arith) {i = k} {j = 16} (omega arith)
+
+pub packed_room : (k : ℕ) → k ≤ 8 → 100 ^ k ≤ 10 ^ 16
+packed_room k h = pow-le-pow_right {n = 100} (omega arith) h

@@ -29,6 +29,7 @@ pub(crate) fn unsigned(part: &[u8]) -> i64
 }
 
 // Writes the number's lowest bytes, as many as the part has.
+#[tactic(auto, using(encodings::proofs::Binary::last_bytes))]
 pub(crate) fn put(number: i64, part: &mut [u8])
     requires { length part.old ≤ 8 }
     ensures { part.new ≡ digits 256 (length part.old) (cast_unsigned w64 number) }

@@ -92,6 +92,7 @@ pub(crate) trait Layout {
 }
 
 // The number of a part, if each of its halves but the last is a digit, and the last a sign.
+#[tactic(auto, using(encodings::proofs::Digits::room))]
 pub(crate) fn value<L: Layout>(part: &[u8]) -> Option<i64>
     requires { L.BASE ^ length part.now ≤ 10 ^ 16 }
     ensures { result ≡ digits_then_sign 0 (L.layout.halves part.now) }

@@ -42,6 +42,7 @@ impl TryFrom<FormName> for Format {
 }
 
 // The lowest and the highest number of so many digits.
+#[tactic(auto, using(encodings::proofs::Decimal::decimal_limits))]
 fn decimal_range(size: u8) -> (i64, i64)
     requires some { 1 ≤ size }
     requires few { size ≤ 15 }
@@ -83,6 +84,7 @@ impl Format {
     }
 
     // The number of a part of the form's width.
+    #[tactic(auto, using(encodings::proofs::Digits::zoned_room, encodings::proofs::Shipped::decimal_sizes))]
     pub(crate) fn value(&self, part: &[u8]) -> Option<i64>
         requires { length part.now ≡ (form_of self.now.kind self.now.size).width }
         ensures { result ≡ (form_of self.now.kind self.now.size).value part.now }

@@ -41,6 +41,7 @@ impl Layout for Packed {
 }
 
 // The number of a part; with an even size the first half is spare, and has to be 0.
+#[tactic(auto, using(encodings::proofs::Packed::packed_start, encodings::proofs::Digits::packed_room))]
 pub(crate) fn value(size: u8, part: &[u8]) -> Option<i64>
     requires { length part.now ≤ 8 }
     ensures { result ≡ packed_value size part.now }
