@@ -69,6 +69,7 @@ pub trait Bank {
 }
 
 // Two banks side by side: the left is asked first, the right has what the left lacks.
+// They are of two types, so that each call is written for both.
 #[derive(Drop)]
 pub struct Beside<L, R> {
     pub left: L,

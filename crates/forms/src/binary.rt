@@ -5,7 +5,7 @@ ghost use Rattle.std.specs.Int.Digits.{number_from_digits};
 ghost use Rattle.encodings.specs.Digits.{digits};
 ghost use Rattle.encodings.specs.Binary.{from_complement};
 
-// The number of a part of 2 or 4 bytes, with a sign and without.
+// The number of a part of 2 or 4 bytes, with a sign and without: each arm is one call, at a type of its own.
 pub(crate) fn signed(part: &[u8]) -> i64
     requires { (length part.now == 2 || length part.now == 4) ≡ true }
     ensures { result ≡ from_complement (length part.now) (number_from_digits 256 part.now) }

@@ -10,7 +10,7 @@ use crate::{binary, decimal, packed};
 use bank::{BankRefusal, FormName, Shape};
 use encodings::Kind;
 
-// A kind, and a size that it has.
+// A kind, and a size that it has. There are four kinds and no others, so each method matches on them.
 #[derive(Clone, Copy)]
 pub struct Format {
     pub kind: Kind,

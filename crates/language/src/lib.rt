@@ -55,7 +55,7 @@ pub enum Step {
     End,
 }
 
-// A step with the statement that it belongs to, 0 for `end`.
+// A step with the statement that it belongs to, 0 for `end`: the number that its entries bear.
 #[derive(Clone, Copy, Debug, PartialEq, Eq)]
 pub struct Line {
     pub statement: u8,
@@ -93,6 +93,7 @@ pub struct TextRefusal {
 }
 
 // One thing done in the course of a ticket: the statement (0 for `end`), the row (255 outside `each`), and the figure.
+// The rules have these numbers, and not an option: answers bear them as they are.
 #[derive(Clone, Copy, Debug, PartialEq, Eq)]
 pub struct Entry {
     pub statement: u8,
@@ -120,7 +121,7 @@ impl From<Fault> for u8 {
     }
 }
 
-// A fault with the field that was read or assigned, 255 for none.
+// A fault with the field that was read or assigned, 255 for none, as the rules number it.
 #[derive(Clone, Copy, Debug, PartialEq, Eq)]
 pub struct FieldFault {
     pub fault: Fault,

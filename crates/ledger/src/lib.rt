@@ -17,6 +17,7 @@ pub struct Place {
     pub length: usize,
 }
 
+// A field outside the rows goes by row 255, as callers number it.
 #[derive(Clone, Copy, Debug, PartialEq, Eq)]
 pub enum Call {
     // reads a sheet's text, and forgets the ticket

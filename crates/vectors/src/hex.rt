@@ -4,6 +4,7 @@ ghost use Rattle.vectors.specs.Hex.{digit_value, byte_value, HexOf};
 
 use std::alloc::{AllocError, Global};
 
+// `char::to_digit` would take small letters too.
 fn digit(c: u8) -> Option<u8>
     ensures value { result ≡ digit_value c }
     ensures small { IfSome result (λ d. d < 16) }
