@@ -1,29 +1,23 @@
 // Binary numbers: the highest byte first, and two's complement where there is a sign.
-ghost use Rattle.std.specs.Prelude.{◌≡◌, ◌≤◌, true, ◌||◌, length, ◌==◌, pos};
+ghost use Rattle.std.specs.Prelude.{◌≡◌, ◌≤◌, true, ◌||◌, length, ◌==◌};
 ghost use Rattle.std.specs.Int.{w64, cast_unsigned};
-ghost use Rattle.std.specs.Int.Digits.{number_from_digits};
 ghost use Rattle.encodings.specs.Digits.{digits};
-ghost use Rattle.encodings.specs.Binary.{from_complement};
 
-// The number of a part of 2 or 4 bytes, with a sign and without: each arm is one call, at a type of its own.
-pub(crate) fn signed(part: &[u8]) -> i64
-    requires { (length part.now == 2 || length part.now == 4) ≡ true }
-    ensures { result ≡ from_complement (length part.now) (number_from_digits 256 part.now) }
+// The number of a part of 2 or 4 bytes, by the function that makes a number of so many.
+pub(crate) fn value<S: Into<i64>, L: Into<i64>, F: FnOnce([u8; 2]) -> S, G: FnOnce([u8; 4]) -> L>(
+    part: &[u8],
+    two: F,
+    four: G,
+) -> i64
+    requires size { (length part.now == 2 || length part.now == 4) ≡ true }
+    requires two { F.IsAlwaysCallable two }
+    requires four { G.IsAlwaysCallable four }
+    ensures two { length part.now ≡ 2 → (n : S) × F.post two part.now n × S.converts n result }
+    ensures four { length part.now ≡ 4 → (n : L) × G.post four part.now n × L.converts n result }
 {
     match *part {
-        [a, b] => i64::from(i16::from_be_bytes([a, b])),
-        [a, b, c, d] => i64::from(i32::from_be_bytes([a, b, c, d])),
-        _ => unreachable!(),
-    }
-}
-
-pub(crate) fn unsigned(part: &[u8]) -> i64
-    requires { (length part.now == 2 || length part.now == 4) ≡ true }
-    ensures { result ≡ pos (number_from_digits 256 part.now) }
-{
-    match *part {
-        [a, b] => i64::from(u16::from_be_bytes([a, b])),
-        [a, b, c, d] => i64::from(u32::from_be_bytes([a, b, c, d])),
+        [a, b] => two([a, b]).into(),
+        [a, b, c, d] => four([a, b, c, d]).into(),
         _ => unreachable!(),
     }
 }

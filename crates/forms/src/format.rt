@@ -92,8 +92,8 @@ impl Format {
         match self.kind {
             Kind::Zoned => decimal::value::<Zoned>(part),
             Kind::Packed => packed::value(self.size, part),
-            Kind::Signed => Some(binary::signed(part)),
-            Kind::Unsigned => Some(binary::unsigned(part)),
+            Kind::Signed => Some(binary::value(part, i16::from_be_bytes, i32::from_be_bytes)),
+            Kind::Unsigned => Some(binary::value(part, u16::from_be_bytes, u32::from_be_bytes)),
         }
     }
 
