@@ -101,3 +101,30 @@ impl Line {
         self.to_string(heap)
     }
 }
+
+#[cfg(test)]
+mod tests {
+    use super::Line;
+    use std::test::Fail;
+
+    // No clause can say that there is memory for a text, so a run shows it.
+    #[test]
+    fn lines_are_made(rt: HostRuntime) -> Result<(), Fail> {
+        let line = |field, row, number, places| Line {
+            field,
+            row,
+            number,
+            places,
+        };
+        let cases = [
+            (line(3, None, Some(34593), 2), "3 - 345.93\n"),
+            (line(4, Some(7), Some(120), 0), "4 7 120\n"),
+            (line(0, None, Some(-5), 2), "0 - -0.05\n"),
+            (line(63, Some(0), None, 6), "63 0 ?\n"),
+        ];
+        for (line, text) in cases {
+            assert_eq!(rt; line.to_text(rt.alloc())?.as_str(), text);
+        }
+        Ok(())
+    }
+}
