@@ -1,5 +1,7 @@
 -- Bytes written in hex: two large hex digits for each, and a space between one byte and the next.
-use Rattle.std.specs.Prelude.{◌≡◌, ℕ, ◌+◌, ◌-◌, ◌*◌, ◌<◌, cond, ◌&&◌, List, length, Some, None, Option, nat_le, slice_index}
+use Rattle.std.specs.Prelude.{◌≡◌, ℕ, ◌+◌, ◌-◌, ◌*◌, ◌<◌, cond, ◌&&◌, List, length, Some, None, Option, nat_le, slice_index, ⊤}
+use Rattle.vectors.specs.declared.fault.Fault.{Fault}
+use Rattle.vectors.specs.declared.fault.Fault.TheVariants.{Malformed, Letter, Number, NoMemory}
 
 -- 0 to 9 are the codes 48 to 57, A to F the codes 65 to 70
 abbrev pub digit_value : ℕ → Option ℕ
@@ -18,3 +20,10 @@ pub record HexOf (text bs : List ℕ) : Type 0 where
   pub long : length text + 1 ≡ 3 * length bs
   pub digits : (i : ℕ) → i < length bs → byte_value (slice_index text (3 * i)) (slice_index text (3 * i + 1)) ≡ Some (slice_index bs i)
   pub spaces : (i : ℕ) → i < length bs → 0 < i → slice_index text (3 * i - 1) ≡ 32
+
+-- why a text gave no bytes: it is the hex of none, or there was no memory
+abbrev pub HexFault : List ℕ → Fault → Type 0
+HexFault text Malformed = (bs : List ℕ) → HexOf text bs → ⊥
+HexFault text (NoMemory e) = ⊤
+HexFault text (Letter e) = ⊥
+HexFault text (Number e) = ⊥

@@ -1,8 +1,9 @@
 // Bytes from hex text.
-ghost use Rattle.std.specs.Prelude.{◌≡◌, ℕ, ◌<◌, List, IfSome, IfOk, MatchOption};
-ghost use Rattle.vectors.specs.Hex.{digit_value, byte_value, HexOf};
+ghost use Rattle.std.specs.Prelude.{◌≡◌, ◌<◌, IfSome, IfOk, IfErr};
+ghost use Rattle.vectors.specs.Hex.{digit_value, byte_value, HexOf, HexFault};
 
-use std::alloc::{AllocError, Global};
+use crate::fault::Fault;
+use std::alloc::Global;
 
 // `char::to_digit` would take small letters too.
 fn digit(c: u8) -> Option<u8>
@@ -22,22 +23,20 @@ fn byte(high: u8, low: u8) -> Option<u8>
     Some(16 * digit(high)? + digit(low)?)
 }
 
-// The bytes of a text such as `12 3C`, or none where it is not of that kind.
-pub fn bytes(heap: Global, text: &[u8]) -> Result<Option<Vec<u8>>, AllocError>
-    ensures { IfOk result (λ o. MatchOption o ((bs : List ℕ) → HexOf text.now bs → ⊥) (λ v. HexOf text.now v.items)) }
+// The bytes of a text such as `12 3C`.
+pub fn bytes(heap: Global, text: &[u8]) -> Result<Vec<u8>, Fault>
+    ensures bytes { IfOk result (λ v. HexOf text.now v.items) }
+    ensures fault { IfErr result (HexFault text.now) }
 {
     if text.len() % 3 != 2 {
-        return Ok(None);
+        return Err(Fault::Malformed);
     }
     let mut found = Vec::new(heap);
     for part in text.chunks(3) {
         let ([high, low] | [high, low, b' ']) = part else {
-            return Ok(None);
+            return Err(Fault::Malformed);
         };
-        let Some(b) = byte(*high, *low) else {
-            return Ok(None);
-        };
-        found.push(b)?;
+        found.push(byte(*high, *low).ok_or(Fault::Malformed)?)?;
     }
-    Ok(Some(found))
+    Ok(found)
 }

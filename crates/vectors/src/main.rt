@@ -1,6 +1,7 @@
 // Holds the shipped bank to examples: those that IBM's manuals print, and a few worked by hand.
 #![tactic(auto)]
 
+mod fault;
 mod hex;
 mod row;
 

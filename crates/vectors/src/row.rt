@@ -4,26 +4,11 @@ ghost use Rattle.std.specs.Fn.{FnOnceReturnsAt};
 ghost use Rattle.std.specs.Option.{option_map};
 ghost use Rattle.vectors.specs.Rows.{BytesOf, NumberOf, ClaimOf, RowOf, Upheld};
 
+use crate::fault::Fault;
 use crate::hex;
 use bank::{Bank, FormName};
 use judge::{Claim, Row};
 use std::alloc::{AllocError, Global};
-use std::char::ParseCharError;
-use std::num::ParseIntError;
-use thiserror::Error;
-
-// Why no row was made of a line.
-#[derive(Debug, Drop, Error)]
-pub enum Fault {
-    #[error("a column is missing or malformed")]
-    Malformed,
-    #[error(transparent)]
-    Letter(#[from] ParseCharError),
-    #[error(transparent)]
-    Number(#[from] ParseIntError),
-    #[error(transparent)]
-    NoMemory(#[from] AllocError),
-}
 
 // The first column, and the columns after it.
 fn cut(line: &str) -> Result<(&str, &str), Fault>
@@ -49,9 +34,7 @@ fn optional<T: Drop, F: FnOnce(&str) -> Result<T, Fault>>(
 fn bytes_of(heap: Global, text: &str) -> Result<Option<Vec<u8>>, Fault>
     ensures { IfOk result (λ o. BytesOf text.now (option_map vec_items o)) }
 {
-    optional(text, |text| {
-        hex::bytes(heap, text.as_bytes())?.ok_or(Fault::Malformed)
-    })
+    optional(text, |text| hex::bytes(heap, text.as_bytes()))
 }
 
 fn number_of(text: &str) -> Result<Option<i64>, Fault>
