@@ -80,9 +80,9 @@ pub fn account<B: Bank>(heap: Global, bank: &B, ticket: &[u8]) -> Result<String,
         return String::from_str(heap, "lay 22\n");
     }
     let mut text = String::new(heap);
-    for (i, field) in LAYOUT.iter().enumerate() {
+    for (i, field) in (0..).zip(&LAYOUT) {
         let line = Line {
-            field: i as u8,
+            field: i,
             row: None,
             number: read_field(bank, ticket, field),
             places: field.places,
