@@ -2,7 +2,7 @@
 -- or the line `lay 22` where the ticket has another length than the layout.
 use Rattle.std.specs.Prelude.{ℕ, suc, cond, List, [], ◌∷◌, ◌++◌, length, take, drop, ℤ, None, codes, Option, ◌==◌}
 use Rattle.std.specs.Result.{result_ok}
-use Rattle.bank.specs.Answers.{read_by}
+use Rattle.bank.specs.Answers.{form_by, read_by}
 use Rattle.bank.specs.Model.{Forms}
 use Rattle.bank.specs.declared.FormName.{FormName}
 use Rattle.figures.specs.Line.{line_bytes}
@@ -29,7 +29,7 @@ layout = gross_field ∷ tare_field ∷ price_field ∷ pay_field ∷ []
 
 -- what the bank reads in the field's own bytes
 abbrev pub field_number : Forms → List ℕ → Field → Option ℤ
-field_number forms ticket f = result_ok (read_by (forms f.form.letter f.form.size) (take f.width (drop f.offset ticket)))
+field_number forms ticket f = result_ok (read_by (form_by forms f.form) (take f.width (drop f.offset ticket)))
 
 -- the lines of these fields, numbered from i
 abbrev pub field_lines : Forms → List ℕ → ℕ → List Field → List ℕ

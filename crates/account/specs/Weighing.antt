@@ -1,5 +1,6 @@
 -- A weighing's account in the weighing's own terms: a ticket that holds its four numbers shows those numbers.
 use Rattle.std.specs.Prelude.{◌≡◌, ℕ, List, ◌++◌, ℤ, Some, None}
+use Rattle.bank.specs.Answers.{form_by}
 use Rattle.bank.specs.Model.{Form, Forms, Within}
 use Rattle.figures.specs.Line.{line_bytes}
 use Rattle.account.specs.declared.Field.{Field}
@@ -14,7 +15,7 @@ pub record Weighing : Type 0 where
 -- the part is the number's image in the form that the bank has for the field
 pub record Written (forms : Forms) (f : Field) (n : ℤ) (part : List ℕ) : Type 0 where
   pub form : Form
-  pub has : forms f.form.letter f.form.size ≡ Some form
+  pub has : form_by forms f.form ≡ Some form
   pub fills : form.width ≡ f.width
   pub within : Within form n
   pub is : part ≡ form.image n

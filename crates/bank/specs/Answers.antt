@@ -1,10 +1,15 @@
 -- What the calls of a bank answer, by the form that it has for a letter and a size.
 -- The refusals come in this order: form lacking, part not of its width, then number outside its range or bytes without value.
 use Rattle.std.specs.Prelude.{◌≡◌, ℕ, cond, ◌&&◌, List, length, ℤ, Some, None, Ok, Err, Option, Result, ◌==◌, int_le}
-use Rattle.bank.specs.Model.{Form}
+use Rattle.bank.specs.Model.{Form, Forms}
 use Rattle.bank.specs.declared.BankRefusal.{BankRefusal}
 use Rattle.bank.specs.declared.BankRefusal.TheVariants.{Lacking, WrongWidth, OutOfRange, NoValue}
+use Rattle.bank.specs.declared.FormName.{FormName}
 use Rattle.bank.specs.declared.Shape.{Shape}
+
+-- a bank's form by its name
+abbrev pub form_by : Forms → FormName → Option Form
+form_by forms name = forms name.letter name.size
 
 -- the number of each refusal
 abbrev pub refusal_number : BankRefusal → ℕ

@@ -3,7 +3,7 @@
 
 ghost use Rattle.std.specs.Prelude.{◌≡◌, ◌&&◌, int_le};
 ghost use Rattle.bank.specs.Model.{Forms, Lawful, beside, beside_lawful};
-ghost use Rattle.bank.specs.Answers.{refusal_number, shape_of, read_by, Writes};
+ghost use Rattle.bank.specs.Answers.{form_by, refusal_number, shape_of, read_by, Writes};
 ghost use Rattle.bank.specs.ReadsBack.{ReadsBack};
 
 // Why a bank does not read or write.
@@ -55,15 +55,15 @@ pub trait Bank {
 
     // Width and range of a form, or none where the bank lacks it.
     fn shape(&self, name: FormName) -> Option<Shape>
-        ensures { result ≡ shape_of (forms self.now name.letter name.size) };
+        ensures { result ≡ shape_of (form_by (forms self.now) name) };
 
     // The number that the part stands for.
     fn read(&self, name: FormName, part: &[u8]) -> Result<i64, BankRefusal>
-        ensures { result ≡ read_by (forms self.now name.letter name.size) part.now };
+        ensures { result ≡ read_by (form_by (forms self.now) name) part.now };
 
     // Puts the number's image into the part; a refusal leaves the part as it was.
     fn write(&self, name: FormName, number: i64, part: &mut [u8]) -> Result<(), BankRefusal>
-        ensures { Writes (forms self.now name.letter name.size) number part.old part.new result };
+        ensures { Writes (form_by (forms self.now) name) number part.old part.new result };
 
     ghost lawful: { (b : Self) → Lawful (forms b) };
 }

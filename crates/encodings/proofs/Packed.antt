@@ -1,4 +1,4 @@
--- Laws of the packed form: a loop's step for reading and for writing, and what it owes as a form.
+-- Laws of the packed form: a step of reading, its image at its width, and what it owes as a form.
 use Rattle.std.proofs.Common.{◌≡◌, ℕ, suc, ◌+◌, ◌-◌, ◌*◌, ◌/◌, ◌%◌, ◌^◌, ◌<◌, ◌≤◌, Bool, true, false, cond, ◌&&◌, eqb, ltb, ◌⊎◌, List, [], ◌∷◌, ◌++◌, length, get_or, ℤ, nat_abs, IfSome, Some, None, sym, refl, ap, ◌∙◌, inl, inr, arith, length-append, ltb-false, eqb-true}
 use native.Mathlib.Nat.{div-eq_of_lt}
 use borrow.Author.Tests.{eqb-false}

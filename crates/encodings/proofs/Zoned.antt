@@ -1,4 +1,4 @@
--- Laws of the zoned form: a loop's step for reading and for writing, and what it owes as a form.
+-- Laws of the zoned form: a step of reading, and what it owes as a form.
 use Rattle.std.proofs.Common.{◌≡◌, ℕ, suc, ◌+◌, ◌*◌, ◌/◌, ◌%◌, ◌^◌, ◌<◌, ◌≤◌, List, [], ◌∷◌, ◌++◌, length, ℤ, nat_abs, Some, None, refl, ap, ◌∙◌, arith}
 use Rattle.std.specs.Int.Digits.{AllBelowBase}
 use Rattle.bank.specs.Model.{LawfulForm, Bytes}

@@ -4,7 +4,7 @@ use native.Mathlib.Nat.{one-le-pow}
 use Rattle.std.specs.Fmt.{padded_integral, char_count, format_spec}
 use Rattle.std.specs.Int.Digits.{AllBelowBase, number_from_digits, number_from_digits_after}
 use Rattle.std.proofs.lemmas.List.{length-map, length-replicate}
-use Rattle.std.proofs.Math.Nat.{mod-le, sub-zero}
+use Rattle.std.proofs.Math.Nat.{mod-le, mod-eq_of_lt, sub-zero}
 use Rattle.std.proofs.lemmas.Nat.{same_from_place}
 use Rattle.encodings.specs.Digits.{digits}
 use Rattle.encodings.proofs.Digits.{length_digits, under_digits, after_digits}
@@ -13,6 +13,9 @@ use Rattle.figures.proofs.Decimal.{wholes, decimal_wholes, under_wholes, number_
 
 pub power_positive : (k : ℕ) → 0 < 10 ^ k
 power_positive k = one-le-pow k 10 (omega arith)
+
+pub below_power : (n p : ℕ) → n < p → n % p ≡ n
+below_power n p h = mod-eq_of_lt h
 
 -- as many digits that give the same number are the same digits
 same_digits : (b m n : ℕ) (xs ys : List ℕ) → AllBelowBase b xs → AllBelowBase b ys → length xs ≡ length ys → number_from_digits_after b m xs ≡ number_from_digits_after b n ys → (m ≡ n) × (xs ≡ ys)

@@ -9,7 +9,7 @@ ghost use Rattle.figures.specs.Reading.{LineShows};
 use std::alloc::{AllocError, Global};
 use std::fmt;
 
-/// A number with decimal places, in units of the last one: 6.85 is 685 units at 2 places.
+// A number with decimal places, in units of the last one: 6.85 is 685 units at 2 places.
 #[derive(Clone, Copy, Debug, PartialEq, Eq)]
 pub struct Figure {
     pub units: i64,
@@ -17,16 +17,15 @@ pub struct Figure {
 }
 
 // What stands before the point of `n` with `places` places, and after it.
-#[tactic(auto, using(crate::proofs::Padded::power_positive))]
+#[tactic(auto, using(crate::proofs::Padded::power_positive, crate::proofs::Padded::below_power))]
 fn split_at_point(n: u64, places: u8) -> (u64, u64)
     ensures whole { result.0 ≡ n / 10 ^ places }
     ensures fraction { result.1 ≡ n % 10 ^ places }
 {
-    match 10u64.checked_pow(u32::from(places)) {
-        Some(power) => (n / power, n % power),
-        // the power is above every u64
-        None => (0, n),
-    }
+    // A power that does not fit is above every `u64`.
+    10u64
+        .checked_pow(u32::from(places))
+        .map_or((0, n), |power| (n / power, n % power))
 }
 
 impl fmt::Display for Figure {
@@ -63,7 +62,7 @@ impl<T: fmt::Display> fmt::Display for OrMark<T> {
     }
 }
 
-/// A field's line: its number with these places, or `?` for none, after its row, or `-` for none.
+// A field's line: its number with these places, or `?` for none, after its row, or `-` for none.
 #[derive(Clone, Copy, Debug, PartialEq, Eq)]
 pub struct Line {
     pub field: u8,
@@ -90,7 +89,7 @@ impl fmt::Display for Line {
 }
 
 impl Line {
-    /// The line as `to_string` gives it, with what a reader finds there.
+    // The line as `to_string` gives it, with what a reader finds there.
     #[tactic(auto, using(crate::proofs::ReadsBack::line_shows))]
     pub fn to_text(self, heap: Global) -> Result<String, AllocError>
         ensures bytes { IfOk result

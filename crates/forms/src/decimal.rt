@@ -119,7 +119,7 @@ pub(crate) fn put<L: Layout>(number: i64, part: &mut [u8])
     let last = part.len() - 1;
     part[last] = L::last((magnitude % 10) as u8, Sign::of(number));
     let mut rest = magnitude / 10;
-    // By index: of what is written through `iter_mut` no proof knows the bytes afterwards.
+    // By index: after a loop over `iter_mut().rev()` no proof knows the bytes.
     for i in (0..last).rev() {
         part[i] = L::byte(rest % L::BASE);
         rest /= L::BASE;

@@ -2,7 +2,7 @@
 ghost use Rattle.std.specs.Prelude.{◌≡◌, ◌-◌, ◌^◌, ◌≤◌, true, length, pos, negsuc, Some};
 ghost use Rattle.bank.specs.Model.{Within};
 ghost use Rattle.bank.specs.Answers.{shape_of};
-ghost use Rattle.encodings.specs.Shipped.{has_size, form_of};
+ghost use Rattle.encodings.specs.Shipped.{has_size};
 
 use crate::packed::Packed;
 use crate::zoned::Zoned;
@@ -22,11 +22,11 @@ pub struct Format {
 impl TryFrom<FormName> for Format {
     type Error = BankRefusal;
 
-    ghost use Rattle.std.specs.Prelude.{◌≡◌, Some, None, MatchResult};
-    ghost use Rattle.bank.specs.declared.BankRefusal.TheVariants.{Lacking};
-    ghost use Rattle.encodings.specs.Shipped.{form_of, shipped};
+    ghost use Rattle.bank.specs.Answers.{form_by};
+    ghost use Rattle.encodings.specs.Shipped.{shipped};
+    ghost use Rattle.forms.specs.Formats.{FormatOf};
 
-    ghost try_from_gives = { λ name format. MatchResult format (λ f. shipped name.letter name.size ≡ Some (form_of f.kind f.size)) (λ e. (shipped name.letter name.size ≡ None) × (e ≡ Lacking)) };
+    ghost try_from_gives = { λ name format. FormatOf (form_by shipped name) format };
 
     fn try_from(name: FormName) -> Result<Format, BankRefusal> {
         let kind = Kind::try_from(name.letter)?;
@@ -54,8 +54,10 @@ fn decimal_range(size: u8) -> (i64, i64)
 }
 
 impl Format {
+    ghost use Rattle.forms.specs.Formats.{form};
+
     pub(crate) fn width(&self) -> usize
-        ensures { result ≡ (form_of self.now.kind self.now.size).width }
+        ensures { result ≡ (form self.now).width }
     {
         let size = usize::from(self.size);
         match self.kind {
@@ -65,7 +67,7 @@ impl Format {
     }
 
     pub(crate) fn shape(&self) -> Shape
-        ensures { Some result ≡ shape_of (Some (form_of self.now.kind self.now.size)) }
+        ensures { Some result ≡ shape_of (Some (form self.now)) }
     {
         let size = u32::from(self.size);
         let (low, high) = match self.kind {
@@ -86,8 +88,8 @@ impl Format {
     // The number of a part of the form's width.
     #[tactic(auto, using(encodings::proofs::Digits::zoned_room, encodings::proofs::Shipped::decimal_sizes))]
     pub(crate) fn value(&self, part: &[u8]) -> Option<i64>
-        requires { length part.now ≡ (form_of self.now.kind self.now.size).width }
-        ensures { result ≡ (form_of self.now.kind self.now.size).value part.now }
+        requires { length part.now ≡ (form self.now).width }
+        ensures { result ≡ (form self.now).value part.now }
     {
         match self.kind {
             Kind::Zoned => decimal::value::<Zoned>(part),
@@ -99,9 +101,9 @@ impl Format {
 
     // Puts the image of a number that the form holds into a part of its width.
     pub(crate) fn put(&self, number: i64, part: &mut [u8])
-        requires width { length part.old ≡ (form_of self.now.kind self.now.size).width }
-        requires held { Within (form_of self.now.kind self.now.size) number }
-        ensures { part.new ≡ (form_of self.now.kind self.now.size).image number }
+        requires width { length part.old ≡ (form self.now).width }
+        requires held { Within (form self.now) number }
+        ensures { part.new ≡ (form self.now).image number }
     {
         match self.kind {
             Kind::Zoned => decimal::put::<Zoned>(number, part),

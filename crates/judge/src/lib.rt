@@ -2,6 +2,7 @@
 #![tactic(auto)]
 
 ghost use Rattle.std.specs.Prelude.{Decides};
+ghost use Rattle.bank.specs.Answers.{form_by};
 ghost use Rattle.judge.specs.Claims.{ReadsAs, WritesAs, Refuses, Agrees};
 
 use bank::{Bank, BankRefusal, FormName};
@@ -26,14 +27,14 @@ const WIDEST: usize = 16;
 
 // The bytes read as the number or, where there is none, have no value.
 fn reads_as<B: Bank>(bank: &B, name: FormName, bytes: &[u8], number: Option<i64>) -> bool
-    ensures { Decides result (ReadsAs (B.Bank.forms bank.now name.letter name.size) bytes.now number) }
+    ensures { Decides result (ReadsAs (form_by (B.Bank.forms bank.now) name) bytes.now number) }
 {
     bank.read(name, bytes) == number.ok_or(BankRefusal::NoValue)
 }
 
 // The number is written as the image.
 fn writes_as<B: Bank>(bank: &B, name: FormName, number: i64, image: &[u8]) -> bool
-    ensures { Decides result (WritesAs (B.Bank.forms bank.now name.letter name.size) number image.now) }
+    ensures { Decides result (WritesAs (form_by (B.Bank.forms bank.now) name) number image.now) }
 {
     if image.len() > WIDEST {
         return false;
@@ -45,7 +46,7 @@ fn writes_as<B: Bank>(bank: &B, name: FormName, number: i64, image: &[u8]) -> bo
 
 // The bank has the form, and the number is outside its range.
 fn refuses<B: Bank>(bank: &B, name: FormName, number: i64) -> bool
-    ensures { Decides result (Refuses (B.Bank.forms bank.now name.letter name.size) number) }
+    ensures { Decides result (Refuses (form_by (B.Bank.forms bank.now) name) number) }
 {
     let Some(shape) = bank.shape(name) else {
         return false;
@@ -59,7 +60,7 @@ fn refuses<B: Bank>(bank: &B, name: FormName, number: i64) -> bool
 
 // The bank reads and writes as the row says.
 pub fn agrees<B: Bank>(bank: &B, row: &Row) -> bool
-    ensures { Decides result (Agrees (B.Bank.forms bank.now row.now.form.letter row.now.form.size) row.now.claim) }
+    ensures { Decides result (Agrees (form_by (B.Bank.forms bank.now) row.now.form) row.now.claim) }
 {
     let form = row.form;
     match &row.claim {
