@@ -3,6 +3,7 @@ use Rattle.std.specs.Prelude.{◌≡◌, ℕ, List, ◌∷◌, ◌++◌, ℤ, So
 use Rattle.std.proofs.Math.Utf8.{encode}
 use Rattle.std.specs.Option.{option_map}
 use Rattle.std.specs.Str.Parse.{IsNumeral, digits_value, without_leading_plus, without_leading_sign, signed_digits_value}
+use Rattle.bank.specs.Answers.{form_by}
 use Rattle.bank.specs.Model.{Forms}
 use Rattle.judge.specs.Claims.{Agrees}
 use Rattle.judge.specs.declared.Claim.{Claim}
@@ -46,4 +47,4 @@ pub record RowOf (line : List ℕ) (row : Row) : Type 0 where
 
 -- the line is a row that agrees with the form that the bank has for its letter and size
 abbrev pub Upheld : Forms → List ℕ → Type 0
-Upheld forms line = (row : Row) × RowOf line row × Agrees (forms row.form.letter row.form.size) row.claim
+Upheld forms line = (row : Row) × RowOf line row × Agrees (form_by forms row.form) row.claim
