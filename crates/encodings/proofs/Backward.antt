@@ -1,18 +1,24 @@
--- Strings written from the last byte to the first: a loop's step.
-use Rattle.std.proofs.Common.{◌≡◌, ℕ, suc, ◌+◌, ◌-◌, ◌/◌, ◌^◌, ◌<◌, ◌≤◌, List, ◌∷◌, length, drop, set, sym, ap, ◌∙◌, pow-suc, arith, length-set}
+-- Digits written the lowest first, and then reversed.
+use Rattle.std.proofs.Common.{◌≡◌, ℕ, zero, suc, ◌+◌, ◌/◌, ◌%◌, ◌^◌, List, [], ◌∷◌, ◌++◌, reverse, map, refl, sym, ap, ◌∙◌, pow-suc, add-one}
 use native.Mathlib.Nat.{div-div-eq-div-mul}
-use Rattle.std.proofs.lemmas.List.{drop-set}
+use Rattle.std.proofs.lemmas.List.{map-append, reverse-append}
+use Rattle.encodings.specs.Digits.{digits}
 
--- how many bytes are written after the one before i
-pub count_more : (xs : List ℕ) (i b : ℕ) → 0 < i → i ≤ length xs → length (set xs (i - 1) b) - (i - 1) ≡ suc (length xs - i)
-count_more xs i b h l = simp length-set (omega arith)
+-- the lowest k digits of n in base b, the lowest first
+abbrev pub low_digits : ℕ → ℕ → ℕ → List ℕ
+low_digits b zero n = []
+low_digits b (suc k) n = low_digits b k n ++ (n / b ^ k % b) ∷ []
 
--- F k is what the last k bytes are to be
-module _ (F : ℕ → List ℕ) (xs : List ℕ) where
-  pub back_more : (i b : ℕ) → 0 < i → i ≤ length xs → F (suc (length xs - i)) ≡ b ∷ F (length xs - i) → drop i xs ≡ F (length xs - i) → drop (i - 1) (set xs (i - 1) b) ≡ F (length (set xs (i - 1) b) - (i - 1))
-  back_more i b h l f d =
-      let j : i - 1 + 1 ≡ i = omega arith in
-      drop-set xs (i - 1) b (omega arith) ∙ ap (λ n. b ∷ drop n xs) j ∙ ap (λ ys. b ∷ ys) d ∙ sym (ap F (count_more xs i b h l) ∙ f)
+-- the same as the bytes of a layout, after a reversal
+pub reverse_low_digits : (byte : ℕ → ℕ) (b k n : ℕ) → reverse (map byte (low_digits b k n)) ≡ map byte (digits b k n)
+reverse_low_digits byte b zero n = refl
+reverse_low_digits byte b (suc k) n =
+    ap reverse (map-append byte (low_digits b k n) ((n / b ^ k % b) ∷ []))
+    ∙ reverse-append (map byte (low_digits b k n)) (byte (n / b ^ k % b) ∷ []) ∙ ap (λ bs. byte (n / b ^ k % b) ∷ bs) (reverse_low_digits byte b k n)
+
+-- one byte more
+pub low_more : (byte : ℕ → ℕ) (b i n : ℕ) → map byte (low_digits b (i + 1) n) ≡ map byte (low_digits b i n) ++ byte (n / b ^ i % b) ∷ []
+low_more byte b i n = rw (add-one i) (map-append byte (low_digits b i n) ((n / b ^ i % b) ∷ []))
 
 -- one digit fewer to write
 pub quotient_more : (b m k r : ℕ) → r ≡ m / b ^ k → r / b ≡ m / b ^ suc k

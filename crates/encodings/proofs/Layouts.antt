@@ -1,6 +1,7 @@
--- Zoned and packed are lawful layouts, and what a loop over the bytes of any such layout keeps.
-use Rattle.std.proofs.Common.{◌≡◌, ℕ, zero, suc, ◌+◌, ◌-◌, ◌*◌, ◌/◌, ◌%◌, ◌^◌, ◌<◌, ◌≤◌, Bool, true, false, cond, ◌&&◌, leb, List, [], ◌∷◌, ◌++◌, length, ℤ, nat_abs, IfSome, Some, None, sym, refl, ap, ◌∙◌, inl, inr, pow-suc, div-one, arith, leb-true, leb-false}
+-- Zoned and packed are lawful layouts, and what is written by such a layout is its image.
+use Rattle.std.proofs.Common.{◌≡◌, ℕ, zero, suc, ◌+◌, ◌-◌, ◌*◌, ◌/◌, ◌%◌, ◌^◌, ◌<◌, ◌≤◌, Bool, true, false, cond, ◌&&◌, leb, List, [], map, drop, set, ◌∷◌, ◌++◌, length, ℤ, nat_abs, IfSome, Some, None, sym, refl, ap, ◌∙◌, inl, inr, pow-suc, div-one, arith, leb-true, leb-false}
 use native.Mathlib.Nat.{div-div-eq-div-mul}
+use Rattle.std.proofs.lemmas.List.{drop-set, drop_all}
 use Rattle.bank.specs.Model.{Within}
 use Rattle.encodings.specs.Digits.{digits}
 use Rattle.encodings.specs.Decimal.{digits_then_sign, halves, joined, zoned_halves, zoned_bytes, packed, sign_of}
@@ -9,6 +10,11 @@ use Rattle.encodings.proofs.Decimal.{decimal_limits, size_in_range}
 use Rattle.encodings.proofs.Backward.{quotient_more}
 use Rattle.encodings.proofs.Zoned.{zoned_on, zoned_bad}
 use Rattle.encodings.proofs.Packed.{packed_on, packed_bad, image_at_width}
+
+-- an image that grows by a byte in front
+by_steps : (l : DigitLayout) → ((s n : ℕ) → l.image s 1 n ≡ l.last (n % 10) s ∷ []) → ((s k n : ℕ) → l.image s (suc (suc k)) n ≡ l.byte (n / 10 / l.base ^ k % l.base) ∷ l.image s (suc k) n) → (s k n : ℕ) → l.image s (suc k) n ≡ map l.byte (digits l.base k (n / 10)) ++ l.last (n % 10) s ∷ []
+by_steps l one more s zero n = one s n
+by_steps l one more s (suc k) n = more s k n ∙ ap (λ bs. l.byte (n / 10 / l.base ^ k % l.base) ∷ bs) (by_steps l one more s k n)
 
 -- ---- zoned
 
@@ -33,8 +39,8 @@ zoned_laid = record {
   empty = refl;
   front = zoned_front;
   end = λ b. refl;
-  one = λ s n. ap (λ q. (s * 16 + q % 10) ∷ []) (div-one n);
-  more = λ s k n. ap (λ q. (240 + q % 10) ∷ zoned_bytes s (digits 10 (suc k) n)) (sym (div-div-eq-div-mul n 10 (10 ^ k) ∙ ap (λ p. n / p) (omega (arith, pow-suc 10 k))));
+  written = by_steps zoned_layout (λ s n. ap (λ q. (s * 16 + q % 10) ∷ []) (div-one n))
+      (λ s k n. ap (λ q. (240 + q % 10) ∷ zoned_bytes s (digits 10 (suc k) n)) (sym (div-div-eq-div-mul n 10 (10 ^ k) ∙ ap (λ p. n / p) (omega (arith, pow-suc 10 k)))));
 }
 
 -- ---- packed
@@ -87,23 +93,19 @@ packed_laid = record {
   empty = refl;
   front = packed_front;
   end = λ b. refl;
-  one = λ s n. ap (λ q. (q % 10 * 16 + s) ∷ []) (div-one n);
-  more = packed_more;
+  written = by_steps packed_layout (λ s n. ap (λ q. (q % 10 * 16 + s) ∷ []) (div-one n)) packed_more;
 }
 
--- ---- a loop from the last byte back
+-- ---- writing
 
 module _ {l : DigitLayout} (laid : LawfulDigitLayout l) where
-  pub write_more : (s n w r : ℕ) → 0 < w → r ≡ n / 10 / l.base ^ (w - 1) → l.image s (suc w) n ≡ l.byte (r % l.base) ∷ l.image s w n
-  write_more s n zero r h e = absurd (omega arith)
-  write_more s n (suc k) r h e = let j : suc k - 1 ≡ k = omega arith in laid.more s k n ∙ ap (λ q. l.byte (q % l.base) ∷ l.image s (suc k) n) (sym (rw j at e))
-
-  pub rest_more : (n w r : ℕ) → 0 < w → r ≡ n / 10 / l.base ^ (w - 1) → r / l.base ≡ n / 10 / l.base ^ (suc w - 1)
-  rest_more n zero r h e = absurd (omega arith)
-  rest_more n (suc k) r h e =
-      let j : suc k - 1 ≡ k = omega arith in
-      let i : suc k ≡ suc (suc k) - 1 = omega arith in
-      quotient_more l.base (n / 10) k r (rw j at e) ∙ ap (λ w. n / 10 / l.base ^ w) i
+  -- the digits before the last byte, and that byte, as they are written into a string
+  pub image_written : (s n y : ℕ) (xs front : List ℕ) → 0 < length xs → y ≡ l.last (n % 10) s → front ≡ map l.byte (digits l.base (length xs - 1) (n / 10)) → front ++ drop (length xs - 1) (set xs (length xs - 1) y) ≡ l.image s (length xs) n
+  image_written s n y xs front some last digits_are =
+      let i = length xs - 1 in
+      let e : suc i ≡ length xs = omega arith in
+      let end : drop i (set xs i y) ≡ l.last (n % 10) s ∷ [] = drop-set xs i y (omega arith) ∙ ap (λ ys. y ∷ ys) (drop_all (i + 1) xs (omega arith)) ∙ ap (λ x. x ∷ []) last in
+      ap (λ ys. front ++ ys) end ∙ ap (λ ys. ys ++ l.last (n % 10) s ∷ []) digits_are ∙ sym (laid.written s i n) ∙ ap (λ k. l.image s k n) e
 
 -- what is written for a number that the packed form holds is its image
 pub packed_written : (size len : ℕ) (z : ℤ) → 1 ≤ size → size ≤ 15 → len ≡ size / 2 + 1 → Within (packed size) z → packed_layout.image (sign_of z) len (nat_abs z) ≡ (packed size).image z

@@ -1,6 +1,6 @@
 -- How a decimal form's digits stand in its bytes, said once for zoned and packed:
 -- a byte before the last is one digit in a base, and the last byte holds a decimal digit and the sign.
-use Rattle.std.specs.Prelude.{◌≡◌, ℕ, suc, ◌+◌, ◌-◌, ◌*◌, ◌/◌, ◌%◌, ◌^◌, ◌<◌, ◌≤◌, cond, ◌&&◌, List, [], ◌∷◌, ◌++◌, length, IfSome, Some, None, Option, nat_le}
+use Rattle.std.specs.Prelude.{◌≡◌, ℕ, suc, ◌+◌, ◌-◌, ◌*◌, ◌/◌, ◌%◌, ◌<◌, ◌≤◌, cond, ◌&&◌, List, [], ◌∷◌, ◌++◌, length, map, IfSome, Some, None, Option, nat_le}
 use Rattle.encodings.specs.Digits.{digits}
 use Rattle.encodings.specs.Decimal.{high, low, digits_then_sign, halves, joined, zoned_halves, zoned_bytes}
 
@@ -17,15 +17,14 @@ pub record DigitLayout : Type 0 where
   pub halves : List ℕ → List ℕ
   pub image : ℕ → ℕ → ℕ → List ℕ
 
--- what a layout owes: strings are read from the first byte on, and images are written from the last byte back
+-- what a layout owes: strings are read from the first byte on, and an image is the digits of the base before a last byte
 pub record LawfulDigitLayout (l : DigitLayout) : Type 0 where
   pub base_reach : 10 ≤ l.base
   pub small : (b : ℕ) → IfSome (l.digit b) (λ d. d < l.base)
   pub empty : l.halves [] ≡ []
   pub front : (n b : ℕ) (bs : List ℕ) → 0 < length bs → digits_then_sign n (l.halves (b ∷ bs)) ≡ elim (l.digit b) [ None ↦ None | Some d ↦ digits_then_sign (n * l.base + d) (l.halves bs) ]
   pub end : (b : ℕ) → l.halves (b ∷ []) ≡ l.digit_half b ∷ l.sign_half b ∷ []
-  pub one : (s n : ℕ) → l.image s 1 n ≡ l.last (n % 10) s ∷ []
-  pub more : (s k n : ℕ) → l.image s (suc (suc k)) n ≡ l.byte (n / 10 / l.base ^ k % l.base) ∷ l.image s (suc k) n
+  pub written : (s k n : ℕ) → l.image s (suc k) n ≡ map l.byte (digits l.base k (n / 10)) ++ l.last (n % 10) s ∷ []
 
 -- zoned: one digit a byte, in the low half; F over it, and over the last the sign
 abbrev pub zoned_layout : DigitLayout

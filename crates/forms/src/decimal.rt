@@ -1,6 +1,7 @@
 // Decimal numbers, zoned and packed: digits in the order of the bytes, and a sign in the last byte beside one of them.
-ghost use Rattle.std.specs.Prelude.{◌≡◌, ℕ, ◌^◌, ◌<◌, ◌≤◌, length, unsigned_abs};
+ghost use Rattle.std.specs.Prelude.{◌≡◌, ℕ, ◌^◌, ◌<◌, ◌≤◌, length, map, unsigned_abs};
 ghost use Rattle.encodings.specs.Decimal.{digits_then_sign, sign_of};
+ghost use Rattle.encodings.specs.Digits.{digits};
 ghost use Rattle.encodings.specs.Layouts.{DigitLayout, LawfulDigitLayout};
 ghost use Rattle.forms.specs.Signs.{half_of, signed, SignOf};
 
@@ -110,6 +111,17 @@ pub(crate) fn value<L: Layout>(part: &[u8]) -> Option<i64>
     Some(sign.apply(n * 10 + u64::from(digit)))
 }
 
+// Writes the lowest digits of `rest`, as many as there are bytes, the highest first.
+fn put_digits<L: Layout>(front: &mut [u8], mut rest: u64)
+    ensures { front.new ≡ map L.layout.byte (digits L.BASE (length front.old) rest) }
+{
+    for byte in front.iter_mut() {
+        *byte = L::byte(rest % L::BASE);
+        rest /= L::BASE;
+    }
+    front.reverse();
+}
+
 // Writes the magnitude's lowest digits, as many as the part holds, and the sign.
 pub(crate) fn put<L: Layout>(number: i64, part: &mut [u8])
     requires { 1 ≤ length part.old }
@@ -118,10 +130,5 @@ pub(crate) fn put<L: Layout>(number: i64, part: &mut [u8])
     let magnitude = number.unsigned_abs();
     let last = part.len() - 1;
     part[last] = L::last((magnitude % 10) as u8, Sign::of(number));
-    let mut rest = magnitude / 10;
-    // By index: after a loop over `iter_mut().rev()` no proof knows the bytes.
-    for i in (0..last).rev() {
-        part[i] = L::byte(rest % L::BASE);
-        rest /= L::BASE;
-    }
+    put_digits::<L>(&mut part[..last], magnitude / 10);
 }

@@ -1,27 +1,19 @@
-use Rattle.std.proofs.Common.{◌≡◌, ◌-◌, ◌/◌, ◌%◌, ◌^◌, ◌<◌, ◌∷◌, length, set, sym, ap, ◌∙◌, arith, length-set, to_z, of_z, w64}
+use Rattle.std.proofs.Common.{◌≡◌, ◌-◌, ◌/◌, ◌%◌, length, map, take, set, unsigned_abs, ap, ◌∙◌, arith, length-set, w64}
+use Rattle.std.proofs.lemmas.List.{length-take-le}
+use Rattle.std.proofs.lemmas.Int.{to_z-of_z}
+use Rattle.encodings.specs.Digits.{digits}
 use Rattle.encodings.specs.Decimal.{sign_of}
-use Rattle.encodings.proofs.Backward.{count_more, back_more}
-use Rattle.encodings.proofs.Layouts.{write_more, rest_more}
+use Rattle.encodings.proofs.Layouts.{image_written}
 use Rattle.forms.proofs.decimal.put.Goals as goal
 
-pub loop-i-preserved : goal.loop-i-preserved
-loop-i-preserved g c =
+pub returns : goal.returns
+returns g c =
     let l = g.L.Layout.layout in
-    let laid = g.met.L.Layout.lawful in
-    let base : g.L.Layout.BASE ≡ l.base = g.met.L.Layout.base_is in
+    let xs = c.args.part.now in
     let n = c.unsigned_abs-magnitude.result in
-    let s = sign_of (to_z w64 (of_z w64 c.args.number)) in
-    let xs = c.loop-i.part in
-    let i = c.loop-i.i in
-    let few : i < length xs = c.loop-i.invariant.0 in
-    let some : 0 < length xs - i = omega arith in
-    let rest : c.loop-i.rest ≡ n / 10 / l.base ^ (length xs - i - 1) = c.loop-i.invariant.2 ∙ ap (λ b. n / 10 / b ^ (length xs - i - 1)) base in
-    let byte : c.byte.result ≡ l.byte (c.loop-i.rest % l.base) = c.byte.ensures ∙ ap (λ b. l.byte (c.loop-i.rest % b)) (c.BASE.ensures ∙ base) in
-    let count = count_more xs i c.byte.result c.loop-i-test.true (omega arith) in (
-      simp length-set (omega arith),
-      back_more (λ k. l.image s k n) xs i c.byte.result c.loop-i-test.true (omega arith)
-          (write_more laid s n (length xs - i) c.loop-i.rest some rest ∙ ap (λ b. b ∷ l.image s (length xs - i) n) (sym byte))
-          c.loop-i.invariant.1,
-      ap (λ b. c.loop-i.rest / b) (c.BASE-rest.ensures ∙ base) ∙ rest_more laid n (length xs - i) c.loop-i.rest some rest
-          ∙ ap (λ k. n / 10 / l.base ^ (k - 1)) (sym count) ∙ ap (λ b. n / 10 / b ^ (length (set xs (i - 1) c.byte.result) - (i - 1) - 1)) (sym base),
-    )
+    let z = to_z-of_z w64 c.args.number c.ranges.number in
+    let last : c.last.result ≡ l.last (n % 10) (sign_of c.args.number) = c.last.ensures ∙ ap (l.last (n % 10)) (c.of.ensures ∙ ap sign_of z) in
+    let long : length (take (length xs - 1) (set xs (length xs - 1) c.last.result)) ≡ length xs - 1 = length-take-le (length xs - 1) (set xs (length xs - 1) c.last.result) (simp length-set (omega arith)) in
+    let front : c.put_digits.new.front ≡ map l.byte (digits l.base (length xs - 1) (n / 10)) = c.put_digits.ensures ∙ ap (λ k. map l.byte (digits g.L.Layout.BASE k (n / 10))) long ∙ ap (λ b. map l.byte (digits b (length xs - 1) (n / 10))) g.met.L.Layout.base_is in
+    image_written g.met.L.Layout.lawful (sign_of c.args.number) n c.last.result xs c.put_digits.new.front (omega arith) last front
+    ∙ ap (l.image (sign_of c.args.number) (length xs)) (c.unsigned_abs-magnitude.ensures.value ∙ ap unsigned_abs z)
