@@ -37,8 +37,7 @@ impl Bank for Shipped {
     ghost lawful = { λ _. shipped_lawful };
 
     fn shape(&self, name: FormName) -> Option<Shape> {
-        let format = Format::try_from(name).ok()?;
-        Some(format.shape())
+        Format::try_from(name).ok().map(|format| format.shape())
     }
 
     fn read(&self, name: FormName, part: &[u8]) -> Result<i64, BankRefusal> {

@@ -159,6 +159,7 @@ pub fn following_stands()
 {}
 
 // An accepted sheet has at most 4,096 steps, their operands fit the types above, and a course has at most 262,144 entries.
+// An answer names its lemma: with `using(..)` the proof did not close.
 pub fn bounds_stand()
     ensures { Bounds }
 {}

@@ -16,14 +16,14 @@ pub enum Fault {
     #[error(transparent)]
     Number(#[from] ParseIntError),
     #[error(transparent)]
-    NoMemory(AllocError),
+    NoMemory(#[from] AllocError),
 }
 
 // By hand, since a derived `From` has no contract that says which fault `?` makes.
 impl<T: Drop> From<AllocFailed<T>> for Fault {
     ghost from_gives = { λ _ fault. fault ≡ NoMemory alloc_error };
 
-    fn from(_failed: AllocFailed<T>) -> Fault {
-        Fault::NoMemory(AllocError)
+    fn from(failed: AllocFailed<T>) -> Fault {
+        Fault::NoMemory(AllocError::from(failed))
     }
 }
