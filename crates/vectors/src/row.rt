@@ -1,5 +1,5 @@
 // An example as a line of the table has it.
-ghost use Rattle.std.specs.Prelude.{◌≡◌, true, ◌∷◌, ◌++◌, IfOk, MatchOption, Ok, codes, vec_items};
+ghost use Rattle.std.specs.Prelude.{◌≡◌, true, ◌∷◌, ◌++◌, IfOk, IfErr, MatchOption, Ok, Err, codes, vec_items};
 ghost use Rattle.std.specs.Fn.{FnOnceReturnsAt};
 ghost use Rattle.std.specs.Option.{option_map};
 ghost use Rattle.vectors.specs.Rows.{BytesOf, NumberOf, ClaimOf, RowOf, Upheld};
@@ -23,7 +23,8 @@ fn optional<T: Drop, F: FnOnce(&str) -> Result<T, Fault>>(
     read: F,
 ) -> Result<Option<T>, Fault>
     requires { F.IsAlwaysCallable read }
-    ensures { IfOk result (λ o. MatchOption o (text.now ≡ codes "none") (λ value. FnOnceReturnsAt F.FnOnce read text.now (Ok value))) }
+    ensures ok { IfOk result (λ o. MatchOption o (text.now ≡ codes "none") (λ value. FnOnceReturnsAt F.FnOnce read text.now (Ok value))) }
+    ensures fault { IfErr result (λ fault. FnOnceReturnsAt F.FnOnce read text.now (Err fault)) }
 {
     if text == "none" {
         return Ok(None);
