@@ -1,24 +1,20 @@
--- Digits written the lowest first, and then reversed.
-use Rattle.std.proofs.Common.{◌≡◌, ℕ, zero, suc, ◌+◌, ◌/◌, ◌%◌, ◌^◌, List, [], ◌∷◌, ◌++◌, reverse, map, refl, sym, ap, ◌∙◌, pow-suc, add-one}
-use native.Mathlib.Nat.{div-div-eq-div-mul}
-use Rattle.std.proofs.lemmas.List.{map-append, reverse-append}
+-- Digits written from the lowest on, into bytes from the last on.
+use Rattle.std.proofs.Common.{◌≡◌, ℕ, zero, suc, ◌+◌, ◌/◌, ◌%◌, ◌^◌, [], ◌∷◌, ◌++◌, map, sym, ap, ◌∙◌, pow-suc, div-one, add-one}
+use Rattle.std.proofs.Math.Nat.{pow-succ'}
+use native.Mathlib.Nat.{div-div-eq-div-mul, pow-zero}
+use Rattle.std.proofs.lemmas.List.{map-append}
 use Rattle.encodings.specs.Digits.{digits}
 
--- the lowest k digits of n in base b, the lowest first
-abbrev pub low_digits : ℕ → ℕ → ℕ → List ℕ
-low_digits b zero n = []
-low_digits b (suc k) n = low_digits b k n ++ (n / b ^ k % b) ∷ []
+-- the lowest digit stands last, after the digits of what is left
+pub digits_last : (b k n : ℕ) → digits b (suc k) n ≡ digits b k (n / b) ++ (n % b) ∷ []
+digits_last b zero n = rw (pow-zero b) (ap (λ q. (q % b) ∷ []) (div-one n))
+digits_last b (suc k) n =
+    let e : n / b ^ suc k ≡ n / b / b ^ k = ap (λ p. n / p) (pow-succ' b k) ∙ sym (div-div-eq-div-mul n b (b ^ k)) in
+    ap (λ q. (q % b) ∷ digits b (suc k) n) e ∙ ap (λ ds. (n / b / b ^ k % b) ∷ ds) (digits_last b k n)
 
--- the same as the bytes of a layout, after a reversal
-pub reverse_low_digits : (byte : ℕ → ℕ) (b k n : ℕ) → reverse (map byte (low_digits b k n)) ≡ map byte (digits b k n)
-reverse_low_digits byte b zero n = refl
-reverse_low_digits byte b (suc k) n =
-    ap reverse (map-append byte (low_digits b k n) ((n / b ^ k % b) ∷ []))
-    ∙ reverse-append (map byte (low_digits b k n)) (byte (n / b ^ k % b) ∷ []) ∙ ap (λ bs. byte (n / b ^ k % b) ∷ bs) (reverse_low_digits byte b k n)
-
--- one byte more
-pub low_more : (byte : ℕ → ℕ) (b i n : ℕ) → map byte (low_digits b (i + 1) n) ≡ map byte (low_digits b i n) ++ byte (n / b ^ i % b) ∷ []
-low_more byte b i n = rw (add-one i) (map-append byte (low_digits b i n) ((n / b ^ i % b) ∷ []))
+-- the same as the bytes of a layout
+pub bytes_last : (byte : ℕ → ℕ) (b k n : ℕ) → map byte (digits b (k + 1) n) ≡ map byte (digits b k (n / b)) ++ byte (n % b) ∷ []
+bytes_last byte b k n = rw (add-one k) (ap (map byte) (digits_last b k n) ∙ map-append byte (digits b k (n / b)) ((n % b) ∷ []))
 
 -- one digit fewer to write
 pub quotient_more : (b m k r : ℕ) → r ≡ m / b ^ k → r / b ≡ m / b ^ suc k

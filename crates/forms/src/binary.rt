@@ -22,12 +22,16 @@ pub(crate) fn value<S: Into<i64>, L: Into<i64>, F: FnOnce([u8; 2]) -> S, G: FnOn
     }
 }
 
-// Writes the number's lowest bytes, as many as the part has.
+// Writes the number's lowest bytes to a part of 2 or 4; with its length known, a copy is no call.
 #[tactic(auto, using(encodings::proofs::Binary::last_bytes))]
 pub(crate) fn put(number: i64, part: &mut [u8])
-    requires { length part.old ≤ 8 }
+    requires { (length part.old == 2 || length part.old == 4) ≡ true }
     ensures { part.new ≡ digits 256 (length part.old) (cast_unsigned w64 number) }
 {
     let bytes = number.to_be_bytes();
-    part.copy_from_slice(&bytes[bytes.len() - part.len()..]);
+    match part.len() {
+        2 => part.copy_from_slice(&bytes[6..]),
+        4 => part.copy_from_slice(&bytes[4..]),
+        _ => unreachable!(),
+    }
 }

@@ -1,9 +1,36 @@
 // Decimal numbers, zoned and packed: digits in the order of the bytes, and a sign in the last byte beside one of them.
-ghost use Rattle.std.specs.Prelude.{◌≡◌, ℕ, ◌^◌, ◌<◌, ◌≤◌, length, map, unsigned_abs};
+ghost use Rattle.std.specs.Prelude.{◌≡◌, ℕ, ◌-◌, ◌^◌, ◌<◌, ◌≤◌, length, map, pos, unsigned_abs};
 ghost use Rattle.encodings.specs.Decimal.{digits_then_sign, sign_of};
 ghost use Rattle.encodings.specs.Digits.{digits};
 ghost use Rattle.encodings.specs.Layouts.{DigitLayout, LawfulDigitLayout};
 ghost use Rattle.forms.specs.Signs.{half_of, signed, SignOf};
+
+// The highest number by its count of digits: a table, since `pow` is a loop that each write would go through.
+const HIGHEST: [i64; 16] = [
+    0,
+    9,
+    99,
+    999,
+    9_999,
+    99_999,
+    999_999,
+    9_999_999,
+    99_999_999,
+    999_999_999,
+    9_999_999_999,
+    99_999_999_999,
+    999_999_999_999,
+    9_999_999_999_999,
+    99_999_999_999_999,
+    999_999_999_999_999,
+];
+
+pub(crate) fn highest(size: usize) -> i64
+    requires { size ≤ 15 }
+    ensures { result ≡ pos (10 ^ size - 1) }
+{
+    HIGHEST[size]
+}
 
 // A sign, and the half byte that is written for it.
 #[derive(Clone, Copy, Debug, PartialEq, Eq)]
@@ -112,14 +139,14 @@ pub(crate) fn value<L: Layout>(part: &[u8]) -> Option<i64>
 }
 
 // Writes the lowest digits of `rest`, as many as there are bytes, the highest first.
-fn put_digits<L: Layout>(front: &mut [u8], mut rest: u64)
-    ensures { front.new ≡ map L.layout.byte (digits L.BASE (length front.old) rest) }
+#[tactic(auto, using(encodings::proofs::Backward::bytes_last))]
+fn put_digits<L: Layout>(part: &mut [u8], rest: u64)
+    ensures { part.new ≡ map L.layout.byte (digits L.BASE (length part.old) rest) }
 {
-    for byte in front.iter_mut() {
-        *byte = L::byte(rest % L::BASE);
-        rest /= L::BASE;
+    if let Some((last, front)) = part.split_last_mut() {
+        *last = L::byte(rest % L::BASE);
+        put_digits::<L>(front, rest / L::BASE);
     }
-    front.reverse();
 }
 
 // Writes the magnitude's lowest digits, as many as the part holds, and the sign.

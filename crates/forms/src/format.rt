@@ -11,10 +11,11 @@ use bank::{BankRefusal, FormName, Shape};
 use encodings::Kind;
 
 // A kind, and a size that it has. There are four kinds and no others, so each method matches on them.
+// The size is a `usize`: beside a kind, a `u8` is packed with it into one number and taken apart again at each call.
 #[derive(Clone, Copy)]
 pub struct Format {
     pub kind: Kind,
-    pub size: u8,
+    pub size: usize,
     ghost good: { has_size kind size ≡ true },
 }
 
@@ -33,7 +34,7 @@ impl TryFrom<FormName> for Format {
         if kind.has_size(name.size) {
             Ok(Format {
                 kind,
-                size: name.size,
+                size: usize::from(name.size),
             })
         } else {
             Err(BankRefusal::Lacking)
@@ -43,14 +44,14 @@ impl TryFrom<FormName> for Format {
 
 // The lowest and the highest number of so many digits.
 #[tactic(auto, using(encodings::proofs::Decimal::decimal_limits))]
-fn decimal_range(size: u8) -> (i64, i64)
+fn decimal_range(size: usize) -> (i64, i64)
     requires some { 1 ≤ size }
     requires few { size ≤ 15 }
     ensures low { result.0 ≡ negsuc (10 ^ size - 2) }
     ensures high { result.1 ≡ pos (10 ^ size - 1) }
 {
-    let above = 10i64.pow(u32::from(size));
-    (1 - above, above - 1)
+    let high = decimal::highest(size);
+    (-high, high)
 }
 
 impl Format {
@@ -59,24 +60,21 @@ impl Format {
     pub(crate) fn width(&self) -> usize
         ensures { result ≡ (form self.now).width }
     {
-        let size = usize::from(self.size);
         match self.kind {
-            Kind::Packed => size / 2 + 1,
-            Kind::Zoned | Kind::Signed | Kind::Unsigned => size,
+            Kind::Packed => self.size / 2 + 1,
+            Kind::Zoned | Kind::Signed | Kind::Unsigned => self.size,
         }
     }
 
     pub(crate) fn shape(&self) -> Shape
         ensures { Some result ≡ shape_of (Some (form self.now)) }
     {
-        let size = u32::from(self.size);
-        let (low, high) = match self.kind {
-            Kind::Zoned | Kind::Packed => decimal_range(self.size),
-            Kind::Signed => {
-                let half = 256i64.pow(size) / 2;
-                (-half, half - 1)
-            }
-            Kind::Unsigned => (0, 256i64.pow(size) - 1),
+        let (low, high) = match (self.kind, self.size) {
+            (Kind::Zoned | Kind::Packed, size) => decimal_range(size),
+            (Kind::Signed, 2) => (i64::from(i16::MIN), i64::from(i16::MAX)),
+            (Kind::Signed, _) => (i64::from(i32::MIN), i64::from(i32::MAX)),
+            (Kind::Unsigned, 2) => (0, i64::from(u16::MAX)),
+            (Kind::Unsigned, _) => (0, i64::from(u32::MAX)),
         };
         Shape {
             width: self.width(),

@@ -42,7 +42,7 @@ impl Layout for Packed {
 
 // The number of a part; with an even size the first half is spare, and has to be 0.
 #[tactic(auto, using(encodings::proofs::Packed::packed_start, encodings::proofs::Digits::packed_room))]
-pub(crate) fn value(size: u8, part: &[u8]) -> Option<i64>
+pub(crate) fn value(size: usize, part: &[u8]) -> Option<i64>
     requires { length part.now ≤ 8 }
     ensures { result ≡ packed_value size part.now }
 {
@@ -53,7 +53,7 @@ pub(crate) fn value(size: u8, part: &[u8]) -> Option<i64>
 }
 
 // Whether the first byte's high half is spare and not 0.
-fn spare_used(size: u8, first: u8) -> bool
+fn spare_used(size: usize, first: u8) -> bool
     ensures { result ≡ (even size && nat_lt 0 (first / 16)) }
 {
     size % 2 == 0 && first / 16 > 0

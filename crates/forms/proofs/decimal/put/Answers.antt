@@ -14,6 +14,6 @@ returns g c =
     let z = to_z-of_z w64 c.args.number c.ranges.number in
     let last : c.last.result ≡ l.last (n % 10) (sign_of c.args.number) = c.last.ensures ∙ ap (l.last (n % 10)) (c.of.ensures ∙ ap sign_of z) in
     let long : length (take (length xs - 1) (set xs (length xs - 1) c.last.result)) ≡ length xs - 1 = length-take-le (length xs - 1) (set xs (length xs - 1) c.last.result) (simp length-set (omega arith)) in
-    let front : c.put_digits.new.front ≡ map l.byte (digits l.base (length xs - 1) (n / 10)) = c.put_digits.ensures ∙ ap (λ k. map l.byte (digits g.L.Layout.BASE k (n / 10))) long ∙ ap (λ b. map l.byte (digits b (length xs - 1) (n / 10))) g.met.L.Layout.base_is in
-    image_written g.met.L.Layout.lawful (sign_of c.args.number) n c.last.result xs c.put_digits.new.front (omega arith) last front
+    let front : c.put_digits.new.part ≡ map l.byte (digits l.base (length xs - 1) (n / 10)) = c.put_digits.ensures ∙ ap (λ k. map l.byte (digits g.L.Layout.BASE k (n / 10))) long ∙ ap (λ b. map l.byte (digits b (length xs - 1) (n / 10))) g.met.L.Layout.base_is in
+    image_written g.met.L.Layout.lawful (sign_of c.args.number) n c.last.result xs c.put_digits.new.part (omega arith) last front
     ∙ ap (l.image (sign_of c.args.number) (length xs)) (c.unsigned_abs-magnitude.ensures.value ∙ ap unsigned_abs z)
