@@ -7,9 +7,8 @@ use Rattle.encodings.specs.Digits.{digits}
 use Rattle.encodings.specs.Decimal.{digits_then_sign, halves, joined, zoned_halves, zoned_bytes, packed, sign_of}
 use Rattle.encodings.specs.Layouts.{DigitLayout, LawfulDigitLayout, zoned_layout, packed_layout}
 use Rattle.encodings.proofs.Decimal.{decimal_limits, size_in_range}
-use Rattle.encodings.proofs.Backward.{quotient_more}
 use Rattle.encodings.proofs.Zoned.{zoned_on, zoned_bad}
-use Rattle.encodings.proofs.Packed.{packed_on, packed_bad, image_at_width}
+use Rattle.encodings.proofs.Packed.{packed_on, packed_bad, rest_byte, image_at_width}
 
 -- an image that grows by a byte in front
 by_steps : (l : DigitLayout) → ((s n : ℕ) → l.image s 1 n ≡ l.last (n % 10) s ∷ []) → ((s k n : ℕ) → l.image s (suc (suc k)) n ≡ l.byte (n / 10 / l.base ^ k % l.base) ∷ l.image s (suc k) n) → (s k n : ℕ) → l.image s (suc k) n ≡ map l.byte (digits l.base k (n / 10)) ++ l.last (n % 10) s ∷ []
@@ -74,9 +73,7 @@ hundreds (suc k) =
 two_digits : (k n : ℕ) → n / 10 / 100 ^ k % 100 / 10 * 16 + n / 10 / 100 ^ k % 100 % 10 ≡ n / 10 ^ (suc k * 2) % 10 * 16 + n / 10 ^ (suc k * 2 - 1) % 10
 two_digits k n =
     let low : n / 10 / 100 ^ k ≡ n / 10 ^ (suc k * 2 - 1) = div-div-eq-div-mul n 10 (100 ^ k) ∙ ap (λ p. n / p) (sym (hundreds k)) in
-    let e : suc (suc k * 2 - 1) ≡ suc k * 2 = omega arith in
-    let high : n / 10 / 100 ^ k / 10 ≡ n / 10 ^ (suc k * 2) = quotient_more 10 n (suc k * 2 - 1) (n / 10 / 100 ^ k) low ∙ ap (λ j. n / 10 ^ j) e in
-    omega (arith, low, high)
+    omega (arith, rest_byte (suc k) n (n / 10 / 100 ^ k) (omega arith) low)
 
 packed_more : (s k n : ℕ) → packed_layout.image s (suc (suc k)) n ≡ packed_layout.byte (n / 10 / 100 ^ k % 100) ∷ packed_layout.image s (suc k) n
 packed_more s k n =

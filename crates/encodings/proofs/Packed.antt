@@ -1,18 +1,24 @@
 -- Laws of the packed form: a step of reading, its image at its width, and what it owes as a form.
 use Rattle.std.proofs.Common.{◌≡◌, ℕ, suc, ◌+◌, ◌-◌, ◌*◌, ◌/◌, ◌%◌, ◌^◌, ◌<◌, ◌≤◌, Bool, true, false, cond, ◌&&◌, eqb, ltb, ◌⊎◌, List, [], ◌∷◌, ◌++◌, length, get_or, ℤ, nat_abs, IfSome, Some, None, sym, refl, ap, ◌∙◌, inl, inr, arith, length-append, ltb-false, eqb-true}
-use native.Mathlib.Nat.{div-eq_of_lt}
+use native.Mathlib.Nat.{div-div-eq-div-mul, div-eq_of_lt}
 use borrow.Author.Tests.{eqb-false}
 use Rattle.std.specs.Int.Digits.{AllBelowBase}
 use Rattle.std.proofs.ByRecursion.{All-append, All-weaker}
+use Rattle.std.proofs.lemmas.Bool.{and_parts}
 use Rattle.std.proofs.lemmas.Bool.Decides.{nat_tests}
 use Rattle.bank.specs.Model.{LawfulForm, Bytes}
 use Rattle.encodings.specs.Digits.{digits}
 use Rattle.encodings.specs.Decimal.{with_sign, digits_then_sign, sign_of, even, halves, joined, spare, packed, packed_image, packed_value, past_spare}
 use Rattle.encodings.specs.Layouts.{packed_layout}
 use Rattle.encodings.proofs.Digits.{length_digits, under_digits, number_digits}
+use Rattle.encodings.proofs.Backward.{quotient_more}
 use Rattle.encodings.proofs.Decimal.{digit_on, digit_bad, digits_on, with_sign_of, sign_small, digits_size, decimal_lawful}
 
 -- ---- reading: the spare half, and a byte before the last
+
+pub packed_spare : (size : ℕ) (xs : List ℕ) → 0 < length xs → (even size && ltb 0 (get_or xs 0 0 / 16)) ≡ true → packed_value size xs ≡ None
+packed_spare size [] l e = absurd (omega arith)
+packed_spare size (b ∷ bs) l e = let p = and_parts (even size) (ltb 0 (b / 16)) e in rw p.0 (grind (arith, nat_tests, p.1))
 
 pub packed_start : (size : ℕ) (xs : List ℕ) → 0 < length xs → (even size && ltb 0 (get_or xs 0 0 / 16)) ≡ false → packed_value size xs ≡ digits_then_sign 0 (halves xs)
 packed_start size [] l e = absurd (omega arith)
@@ -35,6 +41,19 @@ packed_bad n b (c ∷ bs) l (inl h) = digit_bad n (b / 16) (b % 16 ∷ halves (c
 packed_bad n b (c ∷ bs) l (inr h) = grind (arith, nat_tests)
 
 -- ---- writing
+
+-- what is left of m with w bytes written: its next byte, and what is left after that
+module _ (w m r : ℕ) (h : 0 < w) (e : r ≡ m / 10 ^ (w * 2 - 1)) where
+  rest_half : r / 10 ≡ m / 10 ^ (w * 2)
+  rest_half = let k : suc (w * 2 - 1) ≡ w * 2 = omega arith in quotient_more 10 m (w * 2 - 1) r e ∙ ap (λ k. m / 10 ^ k) k
+
+  pub rest_byte : r / 10 % 10 * 16 + r % 10 ≡ m / 10 ^ (w * 2) % 10 * 16 + m / 10 ^ (w * 2 - 1) % 10
+  rest_byte = cc (rest_half, e)
+
+  pub rest_more : r / 100 ≡ m / 10 ^ (suc w * 2 - 1)
+  rest_more =
+      let k : suc (w * 2) ≡ suc w * 2 - 1 = omega arith in
+      sym (div-div-eq-div-mul r 10 10) ∙ quotient_more 10 m (w * 2) (r / 10) rest_half ∙ ap (λ k. m / 10 ^ k) k
 
 -- an image written as the last bytes of a number of many digits: the spare half, if any, is a digit 0
 top_zero : (size n : ℕ) → n < 10 ^ size → digits 10 (suc size) n ≡ 0 ∷ digits 10 size n

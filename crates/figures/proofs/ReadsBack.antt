@@ -24,7 +24,7 @@ number_spelt : (k : ℕ) (z : ℤ) → nat_abs z < 2 ^ 64 → number_text k z �
 number_spelt k (pos n) fits = magnitude_spelt k n fits
 number_spelt k (negsuc n) fits = ap (λ t. codes "-" ++ t) (magnitude_spelt k (suc n) fits)
 
-reads_back : (k : ℕ) (z : ℤ) → nat_abs z < 2 ^ 64 → Reading k z (number_text k z)
+pub reads_back : (k : ℕ) (z : ℤ) → nat_abs z < 2 ^ 64 → Reading k z (number_text k z)
 reads_back k z fits =
     let high = nat_abs z / 10 ^ k in
     record {

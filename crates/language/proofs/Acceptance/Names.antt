@@ -36,6 +36,12 @@ module _ (p : Field → Bool) where
       let (l, r) = all_parts xs ys ps in
       (and_from (p x) (all p xs) px l, r)
 
+  pub all_append : (xs ys : List Field) → all p xs ≡ true → all p ys ≡ true → all p (xs ++ ys) ≡ true
+  all_append [] ys h k = k
+  all_append (x ∷ xs) ys h k =
+      let (px, ps) = and_parts _ _ h in
+      and_from (p x) (all p (xs ++ ys)) px (all_append xs ys ps k)
+
 -- where all names differ, each field is found by its name
 pub found_at : (i : ℕ) (fs : List Field) (k : ℕ) → distinct fs ≡ true → k < length fs → found_from i (name_of fs k) fs ≡ Some (i + k)
 found_at i [] k h l = absurd (not-suc-le-zero l)
