@@ -22,7 +22,7 @@ pub(crate) fn value<S: Into<i64>, L: Into<i64>, F: FnOnce([u8; 2]) -> S, G: FnOn
     }
 }
 
-// Writes the number's lowest bytes to a part of 2 or 4; with its length known, a copy is no call.
+// Writes the number's lowest bytes to a part of 2 or 4. A copy of a length that is known here is not a call.
 #[tactic(auto, using(encodings::proofs::Binary::last_bytes))]
 pub(crate) fn put(number: i64, part: &mut [u8])
     requires { (length part.old == 2 || length part.old == 4) ≡ true }
